@@ -1,0 +1,11 @@
+pub mod Lexing
+pub mod Digits
+pub mod Loops
+pub mod Distinct
+pub mod Longest
+pub mod Unique
+pub mod Cutting
+pub mod Symbols
+pub mod Productions
+pub mod Whole
+pub mod Both

@@ -1,0 +1,9 @@
+pub mod Bytes
+pub mod Pieces
+pub mod Cuts
+pub mod Scan
+pub mod Form
+pub mod Reading
+pub mod Front
+pub mod Objects
+pub mod Runs
