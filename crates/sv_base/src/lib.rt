@@ -6,10 +6,12 @@ mod colour;
 mod errors;
 mod fault;
 mod ids;
+mod names;
 mod place;
 
 pub use colour::Colour;
 pub use errors::{DiskFailed, NoMemory};
 pub use fault::{FaultKind, FrontFault, SourceFault};
 pub use ids::{FileId, FuncId, SiteId};
+pub use names::{MOST_NAMES, Names, NamesFull};
 pub use place::Place;
