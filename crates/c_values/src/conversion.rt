@@ -25,8 +25,9 @@ pub fn convert(t: IntType, v: i128) -> i128
     wrap(t, v)
 }
 
+/// The value of type `t` that differs from `v` by a multiple of the number of values of `t`.
 #[tactic(auto, using(crate::proofs::Conversions::wrapped_is))]
-fn wrap(t: IntType, v: i128) -> i128
+pub fn wrap(t: IntType, v: i128) -> i128
     ensures value { result ≡ wrapped t v }
 {
     lower(t, v.rem_euclid(modulus(t)))

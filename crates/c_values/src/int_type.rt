@@ -1,5 +1,5 @@
-ghost use Rattle.std.specs.Prelude.{◌≡◌, ◌≤◌, pos};
-ghost use Rattle.c_values.specs.Types.{greatest, is_inside, is_signed, least, modulus, width};
+ghost use Rattle.std.specs.Prelude.{◌≡◌, ◌≤◌, pos, true};
+ghost use Rattle.c_values.specs.Types.{IsOf, greatest, is_inside, is_signed, least, modulus, width};
 
 /// The integer types (ISO/IEC 9899:1999, 6.2.5). An enumerated type is `Int`.
 #[derive(Clone, Copy, Debug, PartialEq, Eq)]
@@ -92,6 +92,7 @@ pub fn modulus(t: IntType) -> i128
 /// Whether a number is a value of the type.
 pub fn is_inside(t: IntType, z: i128) -> bool
     ensures value { result ≡ is_inside t z }
+    ensures inside { result ≡ true → IsOf t z }
 {
     if z < least(t) {
         return false;

@@ -45,14 +45,16 @@ pub fn shift_right(t: IntType, a: i128, b: i128) -> Result<i128, Undefined>
     Ok(over_power(a, b))
 }
 
-fn over_power(a: i128, b: i128) -> i128
+/// The floor of `a` divided by `2` to the power `b`.
+pub fn over_power(a: i128, b: i128) -> i128
     requires b { (pos 0 ≤ℤ b) × (unsigned_abs b < 64) }
     ensures value { result ≡ int_div_euclid a (pos (power b)) }
 {
     int_laws::shifted_right(a, b as u32)
 }
 
-fn times_power(a: i128, b: i128) -> i128
+/// `a` times `2` to the power `b`.
+pub fn times_power(a: i128, b: i128) -> i128
     requires a { (pos 0 ≤ℤ a) × (unsigned_abs a < 2 ^ 64) }
     requires b { (pos 0 ≤ℤ b) × (unsigned_abs b < 64) }
     ensures value { result ≡ a *ℤ pos (power b) }
