@@ -60,7 +60,7 @@ rest_is_of t x d h p = by_lt_z x (pos 0)
     (λ s. let b = (rest_is x d p).down s in record { low = omega (arith, ints, b.1, h.low); high = omega (arith, ints, b.0, (range t).not_negative) })
     (λ s. let b = (rest_is x d p).up s in record { low = omega (arith, ints, b.0, (range t).not_positive); high = omega (arith, ints, b.1, h.high) })
 
-floor_is_of : (t : IntType) (x : ℤ) (m : ℕ) → IsOf t x → IsOf t (int_div_euclid x (pos m))
+pub floor_is_of : (t : IntType) (x : ℤ) (m : ℕ) → IsOf t x → IsOf t (int_div_euclid x (pos m))
 floor_is_of t x m h = by_lt_z x (pos 0)
     (λ s. let b = quotient_down x m s in record { low = omega (arith, ints, b.0, h.low); high = omega (arith, ints, b.1, (range t).not_negative) })
     (λ s. let b = quotient_up x m s in record { low = omega (arith, ints, b.0, (range t).not_positive); high = omega (arith, ints, b.1, h.high) })

@@ -40,7 +40,7 @@ quot_low a b x m n o k h g p q r s t = elim (quot_side a n k p q) [
     quot_side_zero (pos (suc a)) k o h _ = absurd (omega (arith, ints, h))
     quot_side_zero (negsuc a) k o _ h = absurd (omega (arith, ints, h))
 
-quot_neg : (x : ℤ) (n : ℕ) → int_div (neg_ℤ x) (pos n) ≡ neg_ℤ (int_div x (pos n))
+pub quot_neg : (x : ℤ) (n : ℕ) → int_div (neg_ℤ x) (pos n) ≡ neg_ℤ (int_div x (pos n))
 quot_neg (pos zero) n = rw (zero-div n) refl
 quot_neg (pos (suc a)) n = refl
 quot_neg (negsuc a) n = sym (neg_ℤ-neg_ℤ (pos (suc a / n)))
