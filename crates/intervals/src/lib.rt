@@ -15,6 +15,9 @@ mod remainders;
 mod shifts;
 mod unary_forms;
 
+#[cfg(test)]
+mod tests;
+
 pub use binary_forms::binary;
 pub use casting::cast;
 pub use comparing::compare;
