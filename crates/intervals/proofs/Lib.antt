@@ -1,0 +1,12 @@
+pub mod Fits
+pub mod Joins
+pub mod ProductLaws
+pub mod QuotientLaws
+pub mod RemainderLaws
+pub mod ShiftLaws
+pub mod Ones
+pub mod BitLaws
+pub mod ConversionLaws
+pub mod ComparisonLaws
+pub mod PointerLaws
+pub mod Laws

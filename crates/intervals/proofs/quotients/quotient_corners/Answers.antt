@@ -1,0 +1,16 @@
+use Rattle.std.proofs.Common.{arith, ◌≡◌, of_z, to_z}
+use mir.Syntax.{w128}
+use Rattle.std.proofs.lemmas.Int.{ints, to_z-of_z}
+use Rattle.intervals.proofs.quotients.quotient_corners.Goals as goal
+
+pub returns : goal.returns
+returns c =
+    let al : to_z w128 (of_z w128 c.args.a.low) ≡ c.args.a.low = omega (arith, ints) in
+    let ah : to_z w128 (of_z w128 c.args.a.high) ≡ c.args.a.high = omega (arith, ints) in
+    let bl : to_z w128 (of_z w128 c.args.b.low) ≡ c.args.b.low = omega (arith, ints) in
+    let bh : to_z w128 (of_z w128 c.args.b.high) ≡ c.args.b.high = omega (arith, ints) in
+    let p = to_z-of_z w128 c.quotient.result (record { sfits = c.quotient.type_inv }) in
+    let q = to_z-of_z w128 c.quotient-2.result (record { sfits = c.quotient-2.type_inv }) in
+    let r = to_z-of_z w128 c.quotient-3.result (record { sfits = c.quotient-3.type_inv }) in
+    let s = to_z-of_z w128 c.quotient-4.result (record { sfits = c.quotient-4.type_inv }) in
+    record { value = cc }

@@ -1,0 +1,3 @@
+pub mod Intervals
+pub mod Forms
+pub mod Comparing
