@@ -1,5 +1,5 @@
 -- Two matrices of one size in one: join and widening.
-use Rattle.std.proofs.Common.{◌≡◌, ℕ, ◌≤◌, ◌⊎◌, inl, inr, ℤ, pos, ◌+ℤ◌, ◌≤ℤ◌, Option, Some, unsigned_abs, refl, sym, ◌∙◌, arith, zero-le}
+use Rattle.std.proofs.Common.{◌≡◌, ℕ, ◌≤◌, ◌⊎◌, inl, inr, ℤ, pos, ◌+ℤ◌, ◌≤ℤ◌, Some, refl, sym, ◌∙◌, arith, zero-le}
 use Rattle.std.proofs.lemmas.Int.{ints}
 use Rattle.dbm_matrix.specs.Bounds.{Weights, AtMost, IsWithin, IsRanged}
 use Rattle.dbm_matrix.specs.Paths.{IsClosed}
@@ -13,11 +13,11 @@ module _ (n m : ℕ) (a b e : Weights) (same : n ≡ m) (each : (i j : ℕ) → 
 
   join_triangle : IsClosed n a → IsClosed m b → (i j k : ℕ) (x y : ℤ) → i ≤ n → j ≤ n → k ≤ n → e i k ≡ Some x → e k j ≡ Some y → AtMost (e i j) (x +ℤ y)
   join_triangle ca cb i j k x y ii jj kk q r =
-    let p = parts i k x ii kk q in
-    let s = parts k j y kk jj r in
-    let ta = ca.triangle i j k p.0 s.0 ii jj kk p.2 s.2 in
-    let tb = cb.triangle i j k p.1 s.1 (omega arith) (omega arith) (omega arith) p.3 s.3 in
-    rw (each i j ii jj) (greater_most (a i j) (b i j) (x +ℤ y)
+      let p = parts i k x ii kk q in
+      let s = parts k j y kk jj r in
+      let ta = ca.triangle i j k p.0 s.0 ii jj kk p.2 s.2 in
+      let tb = cb.triangle i j k p.1 s.1 (omega arith) (omega arith) (omega arith) p.3 s.3 in
+      rw (each i j ii jj) (greater_most (a i j) (b i j) (x +ℤ y)
       (most_more (a i j) (p.0 +ℤ s.0) (x +ℤ y) ta (omega (arith, ints, p.4, s.4)))
       (most_more (b i j) (p.1 +ℤ s.1) (x +ℤ y) tb (omega (arith, ints, p.5, s.5))))
 
@@ -30,9 +30,9 @@ module _ (n m : ℕ) (a b e : Weights) (same : n ≡ m) (each : (i j : ℕ) → 
   pub join_within : (h : ℕ) → IsWithin h n a → IsWithin h m b → IsWithin h n e
   join_within h wa wb = record {
     each = λ i j c ii jj q. let p = parts i j c ii jj q in elim p.6 [
-        inl s ↦ rw s (wa.each i j p.0 ii jj p.2)
-        | inr s ↦ rw s (wb.each i j p.1 (omega arith) (omega arith) p.3)
-      ];
+      | inl s ↦ rw s (wa.each i j p.0 ii jj p.2)
+      | inr s ↦ rw s (wb.each i j p.1 (omega arith) (omega arith) p.3)
+    ];
   }
 
   pub join_ranged : (h : ℕ) → IsRanged h n a → IsRanged h m b → IsRanged h n e

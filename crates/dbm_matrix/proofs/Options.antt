@@ -1,7 +1,7 @@
 -- Bounds that may be missing: the lesser of two, and their sum.
-use Rattle.std.proofs.Common.{◌≡◌, ℕ, ◌+◌, ◌*◌, ◌^◌, ◌<◌, ◌≤◌, ℤ, pos, negsuc, ◌+ℤ◌, ◌≤ℤ◌, ◌<ℤ◌, ◌⊎◌, inl, inr, Option, Some, None, refl, sym, ◌∙◌, ap, arith, FitsSigned, to_z, of_z, Bool, true, false, cond, unsigned_abs, int_lt, subst, rules}
+use Rattle.std.proofs.Common.{◌≡◌, ℕ, ◌*◌, ◌^◌, ◌≤◌, ℤ, pos, ◌+ℤ◌, ◌≤ℤ◌, ◌⊎◌, inl, inr, Option, Some, None, refl, sym, ap, arith, FitsSigned, to_z, of_z, Bool, true, false, cond, unsigned_abs, int_lt}
 use mir.Syntax.{w128}
-use Rattle.std.proofs.lemmas.Int.{ints, to_z-of_z, fits_signed_from_abs}
+use Rattle.std.proofs.lemmas.Int.{ints, to_z-of_z}
 use Rattle.dbm_matrix.specs.Bounds.{AtMost}
 use Rattle.dbm_matrix.specs.Changes.{lesser, greater, stable, sum_of, plus}
 
@@ -14,9 +14,9 @@ lesser_cases None b c e = inr e
 lesser_cases (Some x) None c e = inl e
 lesser_cases (Some x) (Some y) c e = by_test (int_lt y x) e
   where
-  by_test : (t : Bool) → Some (cond t y x) ≡ Some c → (Some x ≡ Some c) ⊎ (Some y ≡ Some c)
-  by_test true q = inr q
-  by_test false q = inl q
+    by_test : (t : Bool) → Some (cond t y x) ≡ Some c → (Some x ≡ Some c) ⊎ (Some y ≡ Some c)
+    by_test true q = inr q
+    by_test false q = inl q
 
 pub lesser_left : (a b : Option ℤ) (c : ℤ) → a ≡ Some c → AtMost (lesser a b) c
 lesser_left None b c e = absurd (cc)
@@ -80,7 +80,6 @@ plus_is o a b e h k =
     let fs = sum_fits a b h k in
     rw (e, to_z-of_z w128 a fa, to_z-of_z w128 b fb, to_z-of_z w128 (a +ℤ b) fs) refl
 
-
 pub some_same : (a b : ℤ) → Some a ≡ Some b → a ≡ b
 some_same a b e = cc
 
@@ -104,18 +103,18 @@ greater_some None b c e = absurd (cc)
 greater_some (Some x) None c e = absurd (cc)
 greater_some (Some x) (Some y) c e = by_test (int_lt x y) refl e
   where
-  by_test : (t : Bool) → int_lt x y ≡ t → Some (cond t y x) ≡ Some c → (u : ℤ) × (v : ℤ) × (Some x ≡ Some u) × (Some y ≡ Some v) × (u ≤ℤ c) × (v ≤ℤ c) × ((c ≡ u) ⊎ (c ≡ v))
-  by_test true t q = let h : y ≡ c = cc in (x, y, refl, refl, grind (arith, ints), omega (arith, ints), inr (sym h))
-  by_test false t q = let h : x ≡ c = cc in (x, y, refl, refl, omega (arith, ints), grind (arith, ints), inl (sym h))
+    by_test : (t : Bool) → int_lt x y ≡ t → Some (cond t y x) ≡ Some c → (u : ℤ) × (v : ℤ) × (Some x ≡ Some u) × (Some y ≡ Some v) × (u ≤ℤ c) × (v ≤ℤ c) × ((c ≡ u) ⊎ (c ≡ v))
+    by_test true t q = let h : y ≡ c = cc in (x, y, refl, refl, grind (arith, ints), omega (arith, ints), inr (sym h))
+    by_test false t q = let h : x ≡ c = cc in (x, y, refl, refl, omega (arith, ints), grind (arith, ints), inl (sym h))
 
 pub greater_most : (a b : Option ℤ) (w : ℤ) → AtMost a w → AtMost b w → AtMost (greater a b) w
 greater_most None b w h k = absurd h
 greater_most (Some x) None w h k = absurd k
 greater_most (Some x) (Some y) w h k = by_test (int_lt x y)
   where
-  by_test : (t : Bool) → AtMost (Some (cond t y x)) w
-  by_test true = k
-  by_test false = h
+    by_test : (t : Bool) → AtMost (Some (cond t y x)) w
+    by_test true = k
+    by_test false = h
 
 -- what is kept is the first, and the second is no greater
 pub stable_some : (a b : Option ℤ) (c : ℤ) → stable a b ≡ Some c → (y : ℤ) × (a ≡ Some c) × (b ≡ Some y) × (y ≤ℤ c)
@@ -123,9 +122,9 @@ stable_some None b c e = absurd (cc)
 stable_some (Some x) None c e = absurd (cc)
 stable_some (Some x) (Some y) c e = by_test (int_lt x y) refl e
   where
-  by_test : (t : Bool) → int_lt x y ≡ t → cond t None (Some x) ≡ Some c → (u : ℤ) × (Some x ≡ Some c) × (Some y ≡ Some u) × (u ≤ℤ c)
-  by_test true t q = absurd (cc)
-  by_test false t q = let h : x ≡ c = cc in (y, ap Some h, refl, grind (arith, ints))
+    by_test : (t : Bool) → int_lt x y ≡ t → cond t None (Some x) ≡ Some c → (u : ℤ) × (Some x ≡ Some c) × (Some y ≡ Some u) × (u ≤ℤ c)
+    by_test true t q = absurd (cc)
+    by_test false t q = let h : x ≡ c = cc in (y, ap Some h, refl, grind (arith, ints))
 
 pub plus_small : (o r : Option ℤ) (c : ℤ) → r ≡ plus o c → ((x : ℤ) → o ≡ Some x → unsigned_abs x ≤ 2 ^ 124) → unsigned_abs c ≤ 2 ^ 82 → (y : ℤ) → r ≡ Some y → unsigned_abs y ≤ 2 ^ 125
 plus_small None r c e h k y f = absurd (cc)

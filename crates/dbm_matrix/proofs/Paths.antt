@@ -1,10 +1,10 @@
 -- Paths: one after the other, against bounds, and what closed matrices say of them.
-use Rattle.std.proofs.Common.{◌≡◌, ℕ, ◌≤◌, ℤ, pos, ◌+ℤ◌, ◌≤ℤ◌, ◌<ℤ◌, Option, Some, refl, sym, ◌∙◌, arith}
+use Rattle.std.proofs.Common.{◌≡◌, ℕ, ◌≤◌, ℤ, pos, ◌+ℤ◌, ◌≤ℤ◌, Some, sym, ◌∙◌, arith}
 use Rattle.std.proofs.lemmas.Int.{ints}
 use Rattle.dbm_matrix.specs.Bounds.{Weights, AtMost}
-use Rattle.dbm_matrix.specs.Paths.{Path, IsLeast, IsClosureOf, IsClosed, HasNegativeCycle}
+use Rattle.dbm_matrix.specs.Paths.{Path, IsClosureOf, IsClosed, HasNegativeCycle}
 use Rattle.dbm_matrix.specs.Paths.Path.{here, along}
-use Rattle.dbm_matrix.proofs.Options.{most_out, most_in, most_more, some_same}
+use Rattle.dbm_matrix.proofs.Options.{most_out, most_more, some_same}
 
 pub joined : (n : ℕ) (d : Weights) (i j k : ℕ) (v w : ℤ) → Path n d i k v → Path n d k j w → Path n d i j (v +ℤ w)
 joined n d i j k v w (here h) q = let e : pos 0 +ℤ w ≡ w = omega (arith, ints) in rw e q

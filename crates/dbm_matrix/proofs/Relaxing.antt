@@ -1,21 +1,21 @@
 -- Every bound by way of one new one.
-use Rattle.std.proofs.Common.{◌≡◌, ℕ, ◌+◌, ◌*◌, ◌≤◌, ◌⊎◌, inl, inr, ℤ, pos, ◌+ℤ◌, ◌≤ℤ◌, Option, Some, unsigned_abs, sym, ◌∙◌, arith, zero-le}
+use Rattle.std.proofs.Common.{◌≡◌, ℕ, ◌+◌, ◌*◌, ◌≤◌, ◌⊎◌, inl, inr, ℤ, pos, ◌+ℤ◌, Some, unsigned_abs, sym, ◌∙◌, arith, zero-le}
 use Rattle.std.proofs.lemmas.Int.{ints}
 use Rattle.dbm_matrix.specs.Bounds.{Weights, AtMost, IsWithin, IsRanged}
 use Rattle.dbm_matrix.specs.Solutions.{Solves, Meets}
-use Rattle.dbm_matrix.specs.Changes.{over, lesser, plus, sum_of}
+use Rattle.dbm_matrix.specs.Changes.{over, plus, sum_of}
 use Rattle.dbm_matrix.proofs.Options.{lesser_cases, lesser_left, lesser_right, sum_cases, plus_some, most_out, most_more}
 
 module _ (n i j : ℕ) (c : ℤ) (d e : Weights) (ii : i ≤ n) (jj : j ≤ n) (each : (p q : ℕ) → p ≤ n → q ≤ n → e p q ≡ over i j c d p q) where
   -- a new bound is an old one, or goes over the bound that was added
   pub relaxed_cases : (p q : ℕ) (x : ℤ) → p ≤ n → q ≤ n → e p q ≡ Some x → (d p q ≡ Some x) ⊎ ((a : ℤ) × (b : ℤ) × (d p i ≡ Some a) × (d j q ≡ Some b) × (x ≡ (a +ℤ c) +ℤ b))
   relaxed_cases p q x pp qq h = elim (lesser_cases (d p q) (sum_of (plus (d p i) c) (d j q)) x (sym (each p q pp qq) ∙ h)) [
-      inl k ↦ inl k
-      | inr k ↦ inr (
+    | inl k ↦ inl k
+    | inr k ↦ inr (
         let s = sum_cases (plus (d p i) c) (d j q) x k in
         let t = plus_some (d p i) c s.0 s.2 in
         (t.0, s.1, t.1, s.3, omega (arith, ints, s.4, t.2)))
-    ]
+  ]
 
   pub relaxed_old : (p q : ℕ) (x : ℤ) → p ≤ n → q ≤ n → d p q ≡ Some x → AtMost (e p q) x
   relaxed_old p q x pp qq h = rw (each p q pp qq) (lesser_left (d p q) (sum_of (plus (d p i) c) (d j q)) x h)
@@ -29,9 +29,9 @@ module _ (n i j : ℕ) (c : ℤ) (d e : Weights) (ii : i ≤ n) (jj : j ≤ n) (
   pub relax_within : (a b : ℕ) → IsWithin a n d → unsigned_abs c ≤ b → IsWithin (2 * a + b) n e
   relax_within a b w s = record {
     each = λ p q x pp qq h. elim (relaxed_cases p q x pp qq h) [
-        inl k ↦ omega (arith, w.each p q x pp qq k)
-        | inr k ↦ omega (arith, ints, k.4, s, w.each p i k.0 pp ii k.2, w.each j q k.1 jj qq k.3)
-      ];
+      | inl k ↦ omega (arith, w.each p q x pp qq k)
+      | inr k ↦ omega (arith, ints, k.4, s, w.each p i k.0 pp ii k.2, w.each j q k.1 jj qq k.3)
+    ];
   }
 
   pub relax_ranged : (b : ℕ) → IsRanged b n d → IsRanged b n e
@@ -44,15 +44,15 @@ module _ (n i j : ℕ) (c : ℤ) (d e : Weights) (ii : i ≤ n) (jj : j ≤ n) (
   relax_solves v s m = record {
     zero = s.zero;
     each = λ p q x pp qq h. elim (relaxed_cases p q x pp qq h) [
-        inl k ↦ s.each p q x pp qq k
-        | inr k ↦ omega (arith, ints, k.4, m, s.each p i k.0 pp ii k.2, s.each j q k.1 jj qq k.3)
-      ];
+      | inl k ↦ s.each p q x pp qq k
+      | inr k ↦ omega (arith, ints, k.4, m, s.each p i k.0 pp ii k.2, s.each j q k.1 jj qq k.3)
+    ];
   }
 
   pub solves_relaxed : (v : ℕ → ℤ) → Solves n e v → Solves n d v
   solves_relaxed v s = record {
     zero = s.zero;
     each = λ p q x pp qq h.
-      let t = most_out (e p q) x (relaxed_old p q x pp qq h) in
-      omega (arith, ints, s.each p q t.0 pp qq t.1, t.2);
+        let t = most_out (e p q) x (relaxed_old p q x pp qq h) in
+        omega (arith, ints, s.each p q t.0 pp qq t.1, t.2);
   }

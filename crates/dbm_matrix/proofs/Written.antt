@@ -1,5 +1,5 @@
 -- Cells that are gone through place by place.
-use Rattle.std.proofs.Common.{◌≡◌, ◌≢◌, ℕ, ◌+◌, ◌*◌, ◌<◌, ◌≤◌, ◌⊎◌, inl, inr, ℤ, Option, None, List, length, set, slice_index_or, get_or-set_same, get_or-set_other, refl, sym, ◌∙◌, ap, arith}
+use Rattle.std.proofs.Common.{◌≡◌, ◌≢◌, ℕ, ◌+◌, ◌*◌, ◌<◌, ◌≤◌, inl, inr, ℤ, Option, None, List, length, set, slice_index_or, get_or-set_same, get_or-set_other, ◌∙◌, arith}
 use Rattle.std.proofs.Math.ListN.{length-set}
 use Rattle.std.proofs.lemmas.Bool.Decides.{eqb_tells}
 use Rattle.dbm_matrix.specs.Bounds.{Cells, at}
@@ -14,9 +14,9 @@ pub copied_next : (f : ℕ → Option ℤ) (k : ℕ) (now : List (Option ℤ)) (
 copied_next f k now o kk so e = record {
   len = simp length-set so.len;
   done = λ s h. elim (eqb_tells s k) [
-      inl q ↦ (let p : k < length now = omega (arith, so.len) in rw q.1 (rw get_or-set_same e))
-      | inr q ↦ (let p : s ≢ k = q.1 in rw get_or-set_other (so.done s (omega arith)))
-    ];
+    | inl q ↦ (let p : k < length now = omega (arith, so.len) in rw q.1 (rw get_or-set_same e))
+    | inr q ↦ (let p : s ≢ k = q.1 in rw get_or-set_other (so.done s (omega arith)))
+  ];
 }
 
 -- what was put in row i below j has P, and the other rows are as before
@@ -30,9 +30,9 @@ pub row_revised_next : (P : ℕ → Option ℤ → Type 0) (i j : ℕ) (old now 
 row_revised_next P i j old now o ii jj so p = record {
   len = simp length-set so.len;
   done = λ s h t. elim (eqb_tells s j) [
-      inl e ↦ rw (e.1, put_same now i j o so.len ii jj) p
-      | inr e ↦ rw (put_other now i j i s o jj t (λ q. e.1 q.1)) (so.done s (omega arith) t)
-    ];
+    | inl e ↦ rw (e.1, put_same now i j o so.len ii jj) p
+    | inr e ↦ rw (put_other now i j i s o jj t (λ q. e.1 q.1)) (so.done s (omega arith) t)
+  ];
   left = λ s h t. put_other now i j i s o jj t (λ q. omega (arith, q.1)) ∙ so.left s (omega arith) t;
   others = λ r s t n. put_other now i j r s o jj t (λ q. n q.0) ∙ so.others r s t n;
 }
@@ -48,9 +48,9 @@ pub revised_next : (P : ℕ → ℕ → Option ℤ → Type 0) (n i : ℕ) (old 
 revised_next P n i old now new nn so len row others = record {
   len = len;
   done = λ r s h t. elim (eqb_tells r i) [
-      inl e ↦ rw e.1 (row s t)
-      | inr e ↦ rw (others r s (omega arith) e.1) (so.done r s (omega arith) t)
-    ];
+    | inl e ↦ rw e.1 (row s t)
+    | inr e ↦ rw (others r s (omega arith) e.1) (so.done r s (omega arith) t)
+  ];
   left = λ r s h t. others r s t (λ q. omega (arith, q)) ∙ so.left r s (omega arith) t;
 }
 
@@ -70,21 +70,21 @@ pub around_next : (P : ℕ → ℕ → Option ℤ → Type 0) (v k : ℕ) (old n
 around_next P v k old now new vv kk so len to from here others = record {
   len = len;
   to = λ s h t n. elim (eqb_tells s k) [
-      inl e ↦ rw e.1 (to (λ q. n (e.1 ∙ q)))
-      | inr e ↦ rw (others s v vv (λ q. e.1 q.0) (λ q. n q.0)) (so.to s (omega arith) t n)
-    ];
+    | inl e ↦ rw e.1 (to (λ q. n (e.1 ∙ q)))
+    | inr e ↦ rw (others s v vv (λ q. e.1 q.0) (λ q. n q.0)) (so.to s (omega arith) t n)
+  ];
   from = λ s h t n. elim (eqb_tells s k) [
-      inl e ↦ rw e.1 (from (λ q. n (e.1 ∙ q)))
-      | inr e ↦ rw (others v s t (λ q. n q.1) (λ q. e.1 q.1)) (so.from s (omega arith) t n)
-    ];
+    | inl e ↦ rw e.1 (from (λ q. n (e.1 ∙ q)))
+    | inr e ↦ rw (others v s t (λ q. n q.1) (λ q. e.1 q.1)) (so.from s (omega arith) t n)
+  ];
   left_to = λ s h t. elim (eqb_tells s v) [
-      inl e ↦ rw e.1 (here ∙ so.here)
-      | inr e ↦ others s v vv (λ q. omega (arith, q.0)) (λ q. e.1 q.0) ∙ so.left_to s (omega arith) t
-    ];
+    | inl e ↦ rw e.1 (here ∙ so.here)
+    | inr e ↦ others s v vv (λ q. omega (arith, q.0)) (λ q. e.1 q.0) ∙ so.left_to s (omega arith) t
+  ];
   left_from = λ s h t. elim (eqb_tells s v) [
-      inl e ↦ rw e.1 (here ∙ so.here)
-      | inr e ↦ others v s t (λ q. e.1 q.1) (λ q. omega (arith, q.1)) ∙ so.left_from s (omega arith) t
-    ];
+    | inl e ↦ rw e.1 (here ∙ so.here)
+    | inr e ↦ others v s t (λ q. e.1 q.1) (λ q. omega (arith, q.1)) ∙ so.left_from s (omega arith) t
+  ];
   here = here ∙ so.here;
   others = λ r s t n m. others r s t (λ q. m q.1) (λ q. n q.0) ∙ so.others r s t n m;
 }

@@ -1,5 +1,5 @@
 -- What each call makes of the bounds. A bound that is missing counts as infinite.
-use Rattle.std.specs.Prelude.{◌≡◌, ℕ, ◌-◌, ◌≤◌, length, unsigned_abs, ℤ, pos, ◌+ℤ◌, neg_ℤ, Option, Some, None, List, slice_index_or, int_lt, cond, ◌==◌}
+use Rattle.std.specs.Prelude.{ℕ, ◌-◌, ◌≤◌, length, unsigned_abs, ℤ, pos, ◌+ℤ◌, neg_ℤ, Option, Some, None, List, slice_index_or, int_lt, cond, ◌==◌}
 use Rattle.dbm_matrix.specs.Bounds.{Weights}
 
 abbrev pub lesser : Option ℤ → Option ℤ → Option ℤ

@@ -50,7 +50,12 @@ pub(crate) fn column_plus(cells: &Cells, n: usize, j: usize, c: i128) -> [Option
     bounds
 }
 
-fn revise_row<F: Fn(usize, usize, Option<i128>) -> Option<i128>>(cells: &mut Cells, n: usize, i: usize, f: &F)
+fn revise_row<F: Fn(usize, usize, Option<i128>) -> Option<i128>>(
+    cells: &mut Cells,
+    n: usize,
+    i: usize,
+    f: &F,
+)
     requires in_range { (n < 17) × (i ≤ n) }
     requires f { (j : ℕ) → j ≤ n → F.pre f.now i j (at cells.old i j) }
     ensures len { length cells.new ≡ 289 }
@@ -64,7 +69,11 @@ fn revise_row<F: Fn(usize, usize, Option<i128>) -> Option<i128>>(cells: &mut Cel
 }
 
 // Puts in each place what f answers for the place and the bound there.
-pub(crate) fn revise<F: Fn(usize, usize, Option<i128>) -> Option<i128>>(cells: &mut Cells, n: usize, f: &F)
+pub(crate) fn revise<F: Fn(usize, usize, Option<i128>) -> Option<i128>>(
+    cells: &mut Cells,
+    n: usize,
+    f: &F,
+)
     requires in_range { n < 17 }
     requires f { (i j : ℕ) → i ≤ n → j ≤ n → F.pre f.now i j (at cells.old i j) }
     ensures len { length cells.new ≡ 289 }
@@ -76,7 +85,12 @@ pub(crate) fn revise<F: Fn(usize, usize, Option<i128>) -> Option<i128>>(cells: &
 }
 
 // Both places of v and k, unless the two are one.
-fn revise_pair<F: Fn(usize, usize, Option<i128>) -> Option<i128>>(cells: &mut Cells, v: usize, k: usize, f: &F)
+fn revise_pair<F: Fn(usize, usize, Option<i128>) -> Option<i128>>(
+    cells: &mut Cells,
+    v: usize,
+    k: usize,
+    f: &F,
+)
     requires in_range { (v < 17) × (k < 17) }
     requires to { k ≢ v → F.pre f.now k v (at cells.old k v) }
     requires from { k ≢ v → F.pre f.now v k (at cells.old v k) }
@@ -96,7 +110,12 @@ fn revise_pair<F: Fn(usize, usize, Option<i128>) -> Option<i128>>(cells: &mut Ce
 }
 
 // Puts what f answers in the places between v and each other variable.
-pub(crate) fn revise_around<F: Fn(usize, usize, Option<i128>) -> Option<i128>>(cells: &mut Cells, n: usize, v: usize, f: &F)
+pub(crate) fn revise_around<F: Fn(usize, usize, Option<i128>) -> Option<i128>>(
+    cells: &mut Cells,
+    n: usize,
+    v: usize,
+    f: &F,
+)
     requires in_range { (n < 17) × (v ≤ n) }
     requires to { (k : ℕ) → k ≤ n → k ≢ v → F.pre f.now k v (at cells.old k v) }
     requires from { (k : ℕ) → k ≤ n → k ≢ v → F.pre f.now v k (at cells.old v k) }

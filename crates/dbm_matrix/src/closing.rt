@@ -5,7 +5,7 @@ ghost use Rattle.dbm_matrix.specs.Bounds.{at, IsWithin};
 ghost use Rattle.dbm_matrix.specs.Paths.{IsClosureOf, IsClosed, HasNegativeCycle};
 ghost use Rattle.dbm_matrix.specs.Changes.{lesser, sum_of, through};
 
-use crate::cells::{get, put, Cells};
+use crate::cells::{Cells, get, put};
 use crate::values::{is_below, min, sum};
 
 /// Whether a matrix has a closed form.
@@ -32,7 +32,6 @@ fn relax(cells: &mut Cells, k: usize, i: usize, j: usize, first: Option<i128>)
 // Counts the paths from i over k.
 fn relax_row(cells: &mut Cells, n: usize, k: usize, i: usize)
     requires in_range { (n < 17) × (k ≤ n) × (i ≤ n) }
-    requires here { at cells.old k k ≡ Some (pos 0) }
     requires within { IsWithin (2 ^ 120) n (at cells.old) }
     ensures len { length cells.new ≡ 289 }
     ensures row { (j : ℕ) → j ≤ n → at cells.new i j ≡ through k (at cells.old) i j }

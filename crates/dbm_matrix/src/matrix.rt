@@ -5,7 +5,7 @@ ghost use Rattle.dbm_matrix.specs.Changes.{initial, low, high, AreWithin, with_b
 ghost use Rattle.dbm_matrix.specs.Solutions.{Solves, Meets, assigned, IsInside};
 
 use crate::cells::{column_plus, get, put, revise, revise_around, row};
-use crate::closing::{close, Closing};
+use crate::closing::{Closing, close};
 use crate::values::{add, keep_stable, max, min, negated, sum};
 use std::marker::Model;
 
@@ -44,20 +44,24 @@ impl Matrix {
     {
         let size = ranges.len();
         let mut cells = [None; 289];
-        revise(&mut cells, size, &|i: usize, j: usize, _: Option<i128>| -> Option<i128>
-            requires { (i ≤ length ranges.now) × (j ≤ length ranges.now) × AreWithin (2 ^ 80) ranges.now }
-            ensures { result ≡ initial ranges.entry.now i j }
-        {
-            if i == j {
-                Some(0)
-            } else if i == 0 {
-                Some(ranges[j - 1].1)
-            } else if j == 0 {
-                Some(negated(ranges[i - 1].0))
-            } else {
-                None
-            }
-        });
+        revise(
+            &mut cells,
+            size,
+            &|i: usize, j: usize, _: Option<i128>| -> Option<i128>
+                requires { (i ≤ length ranges.now) × (j ≤ length ranges.now) × AreWithin (2 ^ 80) ranges.now }
+                ensures { result ≡ initial ranges.entry.now i j }
+            {
+                if i == j {
+                    Some(0)
+                } else if i == 0 {
+                    Some(ranges[j - 1].1)
+                } else if j == 0 {
+                    Some(negated(ranges[i - 1].0))
+                } else {
+                    None
+                }
+            },
+        );
         Matrix { size, cells }
     }
 
@@ -118,10 +122,14 @@ impl Matrix {
         ensures solutions { (v : ℕ → ℤ) → Solves self.old.size (bound self.old) v → Solves self.new.size (bound self.new) v }
         ensures other_solutions { (v : ℕ → ℤ) → Solves other.now.size (bound other.now) v → Solves self.new.size (bound self.new) v }
     {
-        revise(&mut self.cells, self.size, &|i: usize, j: usize, c: Option<i128>| -> Option<i128>
-            requires { (i ≤ other.now.size) × (j ≤ other.now.size) }
-            ensures { result ≡ greater c (bound other.entry.now i j) }
-        { max(c, other.bound(i, j)) });
+        revise(
+            &mut self.cells,
+            self.size,
+            &|i: usize, j: usize, c: Option<i128>| -> Option<i128>
+                requires { (i ≤ other.now.size) × (j ≤ other.now.size) }
+                ensures { result ≡ greater c (bound other.entry.now i j) }
+            { max(c, other.bound(i, j)) },
+        );
     }
 
     /// Keeps each bound where the other's is not greater, and drops it otherwise. The matrix may then be no longer closed.
@@ -134,10 +142,14 @@ impl Matrix {
         ensures solutions { (v : ℕ → ℤ) → Solves self.old.size (bound self.old) v → Solves self.new.size (bound self.new) v }
         ensures other_solutions { (v : ℕ → ℤ) → Solves other.now.size (bound other.now) v → Solves self.new.size (bound self.new) v }
     {
-        revise(&mut self.cells, self.size, &|i: usize, j: usize, c: Option<i128>| -> Option<i128>
-            requires { (i ≤ other.now.size) × (j ≤ other.now.size) }
-            ensures { result ≡ stable c (bound other.entry.now i j) }
-        { keep_stable(c, other.bound(i, j)) });
+        revise(
+            &mut self.cells,
+            self.size,
+            &|i: usize, j: usize, c: Option<i128>| -> Option<i128>
+                requires { (i ≤ other.now.size) × (j ≤ other.now.size) }
+                ensures { result ≡ stable c (bound other.entry.now i j) }
+            { keep_stable(c, other.bound(i, j)) },
+        );
     }
 
     /// Drops every bound between v and another variable, the constant zero included.
@@ -150,9 +162,14 @@ impl Matrix {
         ensures within { (b : ℕ) → IsWithin b self.old.size (bound self.old) → IsWithin b self.new.size (bound self.new) }
         ensures solutions { (w : ℕ → ℤ) (z : ℤ) → Solves self.old.size (bound self.old) w → Solves self.new.size (bound self.new) (assigned v z w) }
     {
-        revise_around(&mut self.cells, self.size, v, &|_: usize, _: usize, _: Option<i128>| -> Option<i128>
-            ensures { result ≡ None }
-        { None });
+        revise_around(
+            &mut self.cells,
+            self.size,
+            v,
+            &|_: usize, _: usize, _: Option<i128>| -> Option<i128>
+                ensures { result ≡ None }
+            { None },
+        );
     }
 
     /// Adds c to the variable v.
@@ -168,12 +185,21 @@ impl Matrix {
         ensures ranged { (b : ℕ) → IsRanged b self.old.size (bound self.old) → IsRanged (b + unsigned_abs c) self.new.size (bound self.new) }
         ensures solutions { (w : ℕ → ℤ) → Solves self.old.size (bound self.old) w ↔ Solves self.new.size (bound self.new) (assigned v (w v +ℤ c) w) }
     {
-        revise_around(&mut self.cells, self.size, v, &|i: usize, _: usize, a: Option<i128>| -> Option<i128>
-            requires { ((x : ℤ) → a ≡ Some x → unsigned_abs x ≤ 2 ^ 89) × (unsigned_abs c ≤ 2 ^ 82) }
-            ensures { result ≡ cond (i == v) (plus a (neg_ℤ c)) (plus a c) }
-        {
-            if i == v { add(a, negated(c)) } else { add(a, c) }
-        });
+        revise_around(
+            &mut self.cells,
+            self.size,
+            v,
+            &|i: usize, _: usize, a: Option<i128>| -> Option<i128>
+                requires { ((x : ℤ) → a ≡ Some x → unsigned_abs x ≤ 2 ^ 89) × (unsigned_abs c ≤ 2 ^ 82) }
+                ensures { result ≡ cond (i == v) (plus a (neg_ℤ c)) (plus a c) }
+            {
+                if i == v {
+                    add(a, negated(c))
+                } else {
+                    add(a, c)
+                }
+            },
+        );
     }
 
     /// Forgets `to`, and bounds it to `from + c`, where `from` may be the constant zero. The matrix is then to be closed.
@@ -187,18 +213,23 @@ impl Matrix {
         ensures solutions { (w : ℕ → ℤ) → Solves self.old.size (bound self.old) w → Solves self.new.size (bound self.new) (assigned to (w from +ℤ c) w) }
         ensures equal { (w : ℕ → ℤ) → Solves self.new.size (bound self.new) w → w to ≡ w from +ℤ c }
     {
-        revise_around(&mut self.cells, self.size, to, &|i: usize, j: usize, _: Option<i128>| -> Option<i128>
-            requires { unsigned_abs c ≤ 2 ^ 82 }
-            ensures { result ≡ cond (i == from) (Some c) (cond (j == from) (Some (neg_ℤ c)) None) }
-        {
-            if i == from {
-                Some(c)
-            } else if j == from {
-                Some(negated(c))
-            } else {
-                None
-            }
-        });
+        revise_around(
+            &mut self.cells,
+            self.size,
+            to,
+            &|i: usize, j: usize, _: Option<i128>| -> Option<i128>
+                requires { unsigned_abs c ≤ 2 ^ 82 }
+                ensures { result ≡ cond (i == from) (Some c) (cond (j == from) (Some (neg_ℤ c)) None) }
+            {
+                if i == from {
+                    Some(c)
+                } else if j == from {
+                    Some(negated(c))
+                } else {
+                    None
+                }
+            },
+        );
     }
 
     /// The least and the greatest value of v, the least first.
@@ -232,13 +263,15 @@ impl Matrix {
     {
         let to = column_plus(&self.cells, self.size, i, c);
         let from = row(&self.cells, self.size, j);
-        revise(&mut self.cells, self.size, &|p: usize, q: usize, a: Option<i128>| -> Option<i128>
-            requires {
-                (p < 17) × (q < 17)
-                × ((x : ℤ) → slice_index_or to p None ≡ Some x → unsigned_abs x ≤ 2 ^ 125)
-                × ((x : ℤ) → slice_index_or from q None ≡ Some x → unsigned_abs x ≤ 2 ^ 125)
-            }
-            ensures { result ≡ lesser a (sum_of (slice_index_or to p None) (slice_index_or from q None)) }
-        { min(a, sum(to[p], from[q])) });
+        revise(
+            &mut self.cells,
+            self.size,
+            &|p: usize, q: usize, a: Option<i128>| -> Option<i128>
+                requires { (p < 17) × (q < 17)
+                    × ((x : ℤ) → slice_index_or to p None ≡ Some x → unsigned_abs x ≤ 2 ^ 125)
+                    × ((x : ℤ) → slice_index_or from q None ≡ Some x → unsigned_abs x ≤ 2 ^ 125) }
+                ensures { result ≡ lesser a (sum_of (slice_index_or to p None) (slice_index_or from q None)) }
+            { min(a, sum(to[p], from[q])) },
+        );
     }
 }

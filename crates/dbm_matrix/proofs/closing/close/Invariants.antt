@@ -1,4 +1,4 @@
-use Rattle.std.proofs.Common.{◌≡◌, ℕ, ◌<◌, ◌+◌, ℤ, pos, ◌<ℤ◌, Some, length}
+use Rattle.std.proofs.Common.{◌≡◌, ℕ, ◌<◌, length}
 use Rattle.dbm_matrix.specs.Bounds.{at}
 use Rattle.dbm_matrix.proofs.Closure.{ClosedSoFar, IsNegative}
 use Rattle.dbm_matrix.proofs.closing.close.Given as goal

@@ -1,5 +1,6 @@
 use Rattle.dbm_matrix.specs.Bounds.{at}
-use Rattle.dbm_matrix.proofs.Solving.{no_solution, closure_solves, solves_closure, closure_ranged, closed_within}
+use Rattle.dbm_matrix.proofs.Solving.{no_solution, closure_solves, solves_closure, closure_ranged}
+use Rattle.dbm_matrix.proofs.Magnitudes.{closed_within}
 use Rattle.dbm_matrix.proofs.matrix.Matrix.close.Goals as goal
 
 pub returns-clause-closure : goal.returns-clause-closure
@@ -22,4 +23,4 @@ returns-clause-ranged c = rw (← c.self.view_is) (λ e. closure_ranged c.self.i
 
 pub returns-clause-within : goal.returns-clause-within
 returns-clause-within c = rw (← c.self.view_is) (λ e b r. closed_within c.self.inside.size (at c.close.new.cells) b (c.close.ensures.closed e)
-  (closure_ranged c.self.inside.size (at c.self.inside.cells) (at c.close.new.cells) (c.close.ensures.feasible e) b r))
+    (closure_ranged c.self.inside.size (at c.self.inside.cells) (at c.close.new.cells) (c.close.ensures.feasible e) b r))

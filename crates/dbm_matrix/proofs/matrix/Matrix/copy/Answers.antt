@@ -1,4 +1,4 @@
-use Rattle.std.proofs.Common.{◌≡◌, ℕ, ◌≤◌, ℤ, neg_ℤ, Option, Some, None, cond, eqb, arith, ap}
+use Rattle.std.proofs.Common.{◌≡◌, ℕ, ◌≤◌, neg_ℤ, Some, None, cond, eqb, arith, ap}
 use Rattle.std.proofs.lemmas.Int.{to_z-of_z}
 use Rattle.dbm_matrix.specs.Bounds.{Bounds, at}
 use Rattle.dbm_matrix.specs.Changes.{copied}

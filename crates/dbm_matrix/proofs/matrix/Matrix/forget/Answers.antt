@@ -1,4 +1,4 @@
-use Rattle.std.proofs.Common.{◌≡◌, ℕ, ◌≤◌, Option, None, arith, ap, sym, subst}
+use Rattle.std.proofs.Common.{◌≡◌, ℕ, ◌≤◌, None, arith, ap, sym, subst}
 use Rattle.dbm_matrix.specs.Bounds.{Bounds, at, bound}
 use Rattle.dbm_matrix.specs.Changes.{forgotten}
 use Rattle.dbm_matrix.specs.Paths.{IsClosed}
@@ -20,7 +20,7 @@ returns-clause-bounds c = rw (← c.self.view_is) (each (goal.at.returns-clause-
 pub returns-clause-closed : goal.returns-clause-closed
 returns-clause-closed c =
     forget_closed c.self.inside.size c.args.v (at c.self.inside.cells) (at c.revise_around.new.cells) (each (goal.at.returns-clause-closed c).After-revise_around)
-      (subst (λ (m : Bounds). IsClosed m.size (bound m)) (sym c.self.view_is) c.requires.closed)
+    (subst (λ (m : Bounds). IsClosed m.size (bound m)) (sym c.self.view_is) c.requires.closed)
 
 pub returns-clause-within : goal.returns-clause-within
 returns-clause-within c = rw (← c.self.view_is)

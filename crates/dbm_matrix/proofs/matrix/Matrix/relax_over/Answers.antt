@@ -1,4 +1,4 @@
-use Rattle.std.proofs.Common.{◌≡◌, ℕ, ◌≤◌, ◌^◌, ℤ, Option, None, slice_index_or, ap, arith, sym, ◌∙◌, subst}
+use Rattle.std.proofs.Common.{◌≡◌, ℕ, ◌≤◌, ◌^◌, None, slice_index_or, ap, arith, sym, ◌∙◌, subst}
 use Rattle.std.proofs.lemmas.Int.{to_z-of_z}
 use Rattle.dbm_matrix.specs.Bounds.{Bounds, at, bound, IsWithin}
 use Rattle.dbm_matrix.specs.Changes.{over}

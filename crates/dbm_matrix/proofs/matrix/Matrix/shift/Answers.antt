@@ -1,4 +1,4 @@
-use Rattle.std.proofs.Common.{◌≡◌, ℕ, ◌≤◌, ℤ, neg_ℤ, Option, cond, eqb, arith, ap, sym, subst}
+use Rattle.std.proofs.Common.{◌≡◌, ℕ, ◌≤◌, neg_ℤ, cond, eqb, arith, ap, sym, subst}
 use Rattle.std.proofs.lemmas.Int.{to_z-of_z}
 use Rattle.dbm_matrix.specs.Bounds.{Bounds, at, bound}
 use Rattle.dbm_matrix.specs.Changes.{shifted, plus}
@@ -25,7 +25,7 @@ returns-clause-bounds c = rw (← c.self.view_is) (each (goal.at.returns-clause-
 pub returns-clause-closed : goal.returns-clause-closed
 returns-clause-closed c =
     shift_closed c.self.inside.size c.args.v c.args.c (at c.self.inside.cells) (at c.revise_around.new.cells) (each (goal.at.returns-clause-closed c).After-revise_around)
-      (subst (λ (m : Bounds). IsClosed m.size (bound m)) (sym c.self.view_is) c.requires.closed)
+    (subst (λ (m : Bounds). IsClosed m.size (bound m)) (sym c.self.view_is) c.requires.closed)
 
 pub returns-clause-within : goal.returns-clause-within
 returns-clause-within c = rw (← c.self.view_is)
