@@ -1,0 +1,12 @@
+pub mod Options
+mod Grid
+mod Rows
+pub mod Paths
+pub mod Closure
+mod Written
+mod Examples
+pub mod Merging
+pub mod Assigning
+pub mod Solving
+pub mod Relaxing
+pub mod Magnitudes

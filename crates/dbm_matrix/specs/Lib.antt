@@ -1,0 +1,4 @@
+pub mod Bounds
+pub mod Paths
+pub mod Changes
+pub mod Solutions
