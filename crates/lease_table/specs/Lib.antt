@@ -1,0 +1,3 @@
+pub mod Machine
+pub mod Standings
+pub mod Times
