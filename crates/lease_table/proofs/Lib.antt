@@ -1,3 +1,5 @@
 pub mod Mapped
 pub mod Open
+pub mod Runs
 pub mod Tree
+pub mod WholeRuns
