@@ -1,22 +1,15 @@
 -- What each step of a run keeps.
-use Rattle.std.proofs.Common.{◌≡◌, ◌≢◌, ℕ, zero, suc, ◌+◌, ◌<◌, ◌≤◌, Bool, true, false, cond, Option, Some, None, List, [], ◌∷◌, ◌++◌, length, take, drop, set, map, get_or, replicate, refl, sym, ◌∙◌, ap, subst, arith, inl, inr, ◌⊎◌, get_or-set_same, get_or-set_other, length-append}
+use Rattle.std.proofs.Common.{◌≡◌, ◌≢◌, ℕ, suc, ◌+◌, ◌<◌, ◌≤◌, Bool, true, false, Option, Some, None, List, [], ◌∷◌, ◌++◌, length, take, set, map, replicate, refl, sym, ◌∙◌, ap, arith, inl, inr, get_or-set_same, get_or-set_other, length-append}
 use Rattle.std.proofs.lemmas.Bool.{cases_eq, cases_lt, cases_Bool, and_parts, eqb-true, eq-eqb}
-use Rattle.std.proofs.lemmas.Bool.Decides.{nat_tests}
-use Rattle.std.proofs.lemmas.Option.{slice_get-get_or, slice_get_past, slice_get_within, get_or_from_slice_get}
-use Rattle.std.proofs.lemmas.List.{length-set, length-map, length-replicate, length-take-le, get_or-take, get_or_append_left, get_or_at, get_or-replicate}
+use Rattle.std.proofs.lemmas.Option.{slice_get-get_or, slice_get_past}
+use Rattle.std.proofs.lemmas.List.{length-set, length-replicate, length-take-le, get_or-take, get_or_append_left, get_or_at, get_or-replicate}
 use Rattle.std.proofs.Math.ListN.{get_or-map}
-use Rattle.std.specs.Prelude.{is_some, slice_get, slice_set, slice_index, if◌then◌else◌, ◌&&◌, ◌==◌}
+use Rattle.std.specs.Prelude.{is_some, slice_get, slice_index, ◌==◌}
 use Rattle.lease_table.specs.declared.standing.Standing.{Standing}
 use Rattle.lease_table.specs.declared.standing.Standing.TheVariants.{Free, Leased, Done}
-use Rattle.lease_table.specs.declared.standing.Claimed.{Claimed}
-use Rattle.lease_table.specs.declared.standing.Claimed.TheVariants.{Work, Wait, RoundDone, Finished}
-use Rattle.lease_table.specs.declared.standing.Published.{Published}
-use Rattle.lease_table.specs.declared.standing.Published.TheVariants.{Stored, Lost}
-use Rattle.lease_table.specs.declared.standing.Abandoned.{Abandoned}
-use Rattle.lease_table.specs.declared.standing.Abandoned.TheVariants.{Freed, Lost as NotHeld}
 use Rattle.lease_table.specs.Standings.{standing_at, IsDone, IsClaimable, AllDone, has_run_out, expired}
-use Rattle.lease_table.specs.Machine.{Machine, IsLeasedBy, lease_end}
-use Rattle.lease_table.specs.Runs.{Publication, World, Step, Claim, Publish, Abandon, Expire, Advance, End, Crash, Takes, Runs, begun, is_key, artifact_of, place_of, newest_round, kept_standing, IsReopened, IsNoCrash, HasNoCrash, StaysDone, IsTicketBelow}
+use Rattle.lease_table.specs.Machine.{Machine, IsLeasedBy}
+use Rattle.lease_table.specs.Runs.{Publication, is_key, artifact_of, place_of, newest_round, kept_standing, IsReopened, IsTicketBelow}
 
 -- whether a task is done
 abbrev pub is_done : Standing → Bool
@@ -48,8 +41,8 @@ leased_below ticket next (Done other) h below = absurd h
 pub holder : (tasks : List Standing) (task ticket : ℕ) → IsLeasedBy ticket (slice_get tasks task) → (task < length tasks) × IsLeasedBy ticket (Some (standing_at tasks task))
 holder tasks task ticket leased =
     elim (cases_lt task (length tasks)) [
-      inl inside ↦ (inside, rw (slice_get-get_or tasks task Free inside) at leased)
-    | inr past ↦ absurd (rw (slice_get_past tasks task past) at leased)
+      | inl inside ↦ (inside, rw (slice_get-get_or tasks task Free inside) at leased)
+      | inr past ↦ absurd (rw (slice_get_past tasks task past) at leased)
     ]
 
 -- what holds of every world that a run reaches
@@ -68,18 +61,18 @@ key_parts p round task h =
     let both = and_parts (p.round == round) (p.task == task) h in
     (eqb-true p.round round both.0, eqb-true p.task task both.1)
 
-other_round : (p : Publication) (round task : ℕ) → p.round ≢ round → is_key p round task ≡ false
+pub other_round : (p : Publication) (round task : ℕ) → p.round ≢ round → is_key p round task ≡ false
 other_round p round task other =
     elim (cases_Bool (is_key p round task)) [
-      inl same ↦ absurd (other (key_parts p round task same).0)
-    | inr no' ↦ no'
+      | inl same ↦ absurd (other (key_parts p round task same).0)
+      | inr no' ↦ no'
     ]
 
-other_task : (p : Publication) (round task : ℕ) → p.task ≢ task → is_key p round task ≡ false
+pub other_task : (p : Publication) (round task : ℕ) → p.task ≢ task → is_key p round task ≡ false
 other_task p round task other =
     elim (cases_Bool (is_key p round task)) [
-      inl same ↦ absurd (other (key_parts p round task same).1)
-    | inr no' ↦ no'
+      | inl same ↦ absurd (other (key_parts p round task same).1)
+      | inr no' ↦ no'
     ]
 
 -- a place stands where an artifact does
@@ -87,8 +80,8 @@ pub place_is : (published : List Publication) (round task : ℕ) → is_some (pl
 place_is [] round task = refl
 place_is (p ∷ earlier) round task =
     elim (cases_Bool (is_key p round task)) [
-      inl same ↦ rw same refl
-    | inr other ↦ rw other (place_is earlier round task)
+      | inl same ↦ rw same refl
+      | inr other ↦ rw other (place_is earlier round task)
     ]
 
 pub more : (next : ℕ) (s : Standing) → IsTicketBelow next s → IsTicketBelow (suc next) s
@@ -100,8 +93,8 @@ place_below : (published : List Publication) (round task : ℕ) → IsTicketBelo
 place_below [] round task = tt
 place_below (p ∷ earlier) round task =
     elim (cases_Bool (is_key p round task)) [
-      inl same ↦ rw same (omega arith)
-    | inr other ↦ rw other (more (length earlier) (kept_standing (place_of earlier round task)) (place_below earlier round task))
+      | inl same ↦ rw same (omega arith)
+      | inr other ↦ rw other (more (length earlier) (kept_standing (place_of earlier round task)) (place_below earlier round task))
     ]
 
 pub kept_done : (place : Option ℕ) → is_done (kept_standing place) ≡ is_some place
@@ -123,15 +116,15 @@ retasked rounds published old ended next tasks s long same below = record {
 pub set_done : (tasks : List Standing) (at : ℕ) (s : Standing) → at < length tasks → is_done s ≡ is_done (standing_at tasks at) → (task : ℕ) → is_done (standing_at (set tasks at s) task) ≡ is_done (standing_at tasks task)
 set_done tasks at s inside same task =
     elim (cases_eq task at) [
-      inl here ↦ rw (here, get_or-set_same tasks at s Free inside) same
-    | inr other ↦ rw (get_or-set_other tasks at task s Free other) refl
+      | inl here ↦ rw (here, get_or-set_same tasks at s Free inside) same
+      | inr other ↦ rw (get_or-set_other tasks at task s Free other) refl
     ]
 
 pub set_below : (tasks : List Standing) (at : ℕ) (s : Standing) (next : ℕ) → at < length tasks → IsTicketBelow next s → ((task : ℕ) → task < length tasks → IsTicketBelow next (standing_at tasks task)) → (task : ℕ) → task < length tasks → IsTicketBelow next (standing_at (set tasks at s) task)
 set_below tasks at s next inside below others task within =
     elim (cases_eq task at) [
-      inl here ↦ rw (here, get_or-set_same tasks at s Free inside) below
-    | inr other ↦ rw (get_or-set_other tasks at task s Free other) (others task within)
+      | inl here ↦ rw (here, get_or-set_same tasks at s Free inside) below
+      | inr other ↦ rw (get_or-set_other tasks at task s Free other) (others task within)
     ]
 
 pub expired_at : (now : ℕ) (tasks : List Standing) (task : ℕ) → standing_at (map (expired now) tasks) task ≡ expired now (standing_at tasks task)
@@ -159,8 +152,8 @@ stored rounds published old task ticket artifact s leased =
       newest = omega arith;
       ahead = λ round other later. rw (other_round p round other (omega arith)) (s.ahead round other (omega (arith, s.newest)));
       done = λ other inside. elim (cases_eq other task) [
-        inl same ↦ rw (same, here, get_or-set_same old.tasks task (Done ticket) Free held.0) refl
-      | inr differs ↦ rw (other_task p old.round other (λ e. differs (sym e)), get_or-set_other old.tasks task other (Done ticket) Free differs) (s.done other (rw (length-set old.tasks task (Done ticket)) at inside))
+        | inl same ↦ rw (same, here, get_or-set_same old.tasks task (Done ticket) Free held.0) refl
+        | inr differs ↦ rw (other_task p old.round other (λ e. differs (sym e)), get_or-set_other old.tasks task other (Done ticket) Free differs) (s.done other (rw (length-set old.tasks task (Done ticket)) at inside))
       ];
       full = λ round other before inside. rw (other_round p round other (omega arith)) (s.full round other before inside);
       tickets = λ other inside. set_below old.tasks task (Done ticket) old.next_ticket held.0 (leased_below ticket old.next_ticket (standing_at old.tasks task) held.1 (s.tickets task held.0)) s.tickets other (rw (length-set old.tasks task (Done ticket)) at inside);
@@ -175,13 +168,13 @@ advanced rounds published old tasks s all = record {
   ahead = s.ahead;
   done = λ task inside. s.ahead (old.round + 1) task (omega (arith, s.newest)) ∙ sym (ap is_done (get_or-replicate tasks task Free Free (rw (length-replicate tasks Free) at inside)));
   full = λ round task before inside.
-    let kept : slice_index (rounds ++ tasks ∷ []) round ≡ slice_index rounds round = get_or_append_left rounds (tasks ∷ []) 0 round (omega (arith, s.long)) in
-    let within : task < slice_index rounds round = rw kept at inside in
-    elim (cases_eq round old.round) [
-      inl now ↦ (let there : task < length old.tasks = rw (s.count, ← now) within in
-        rw now (s.done task there ∙ done_is (standing_at old.tasks task) (all task there)))
-    | inr earlier ↦ s.full round task (omega arith) within
-    ];
+      let kept : slice_index (rounds ++ tasks ∷ []) round ≡ slice_index rounds round = get_or_append_left rounds (tasks ∷ []) 0 round (omega (arith, s.long)) in
+      let within : task < slice_index rounds round = rw kept at inside in
+      elim (cases_eq round old.round) [
+        | inl now ↦ (let there : task < length old.tasks = rw (s.count, ← now) within in
+            rw now (s.done task there ∙ done_is (standing_at old.tasks task) (all task there)))
+        | inr earlier ↦ s.full round task (omega arith) within
+      ];
   tickets = λ task inside. rw (get_or-replicate tasks task Free Free (rw (length-replicate tasks Free) at inside)) tt;
 }
 

@@ -1,21 +1,18 @@
 -- What holds over whole runs.
-use Rattle.std.proofs.Common.{◌≡◌, ◌≢◌, ℕ, zero, suc, ◌+◌, ◌<◌, ◌≤◌, Bool, true, false, cond, Option, Some, None, List, [], ◌∷◌, ◌++◌, length, take, drop, set, map, get_or, replicate, refl, sym, ◌∙◌, ap, subst, arith, inl, inr, ◌⊎◌, get_or-set_other}
+use Rattle.std.proofs.Common.{◌≡◌, ℕ, suc, ◌+◌, ◌<◌, ◌≤◌, true, false, Option, Some, None, List, [], ◌∷◌, ◌++◌, length, set, map, refl, sym, ◌∙◌, ap, arith, inl, inr, ◌⊎◌, get_or-set_other}
 use Rattle.std.proofs.lemmas.Bool.{cases_eq, cases_lt, cases_Bool}
 use Rattle.std.proofs.lemmas.Option.{slice_get-get_or, slice_get_within, get_or_from_slice_get}
 use Rattle.std.proofs.lemmas.List.{length-set, length-map, length-replicate, get_or-take, get_or_append_left, get_or-replicate}
-use Rattle.std.specs.Prelude.{is_some, slice_get, slice_index, if◌then◌else◌, IsSome}
+use Rattle.std.specs.Prelude.{is_some, slice_get, slice_index}
 use Rattle.lease_table.specs.declared.standing.Standing.{Standing}
 use Rattle.lease_table.specs.declared.standing.Standing.TheVariants.{Free, Leased, Done}
-use Rattle.lease_table.specs.declared.standing.Claimed.{Claimed}
 use Rattle.lease_table.specs.declared.standing.Claimed.TheVariants.{Work, Wait, RoundDone, Finished}
-use Rattle.lease_table.specs.declared.standing.Published.{Published}
 use Rattle.lease_table.specs.declared.standing.Published.TheVariants.{Stored, Lost}
-use Rattle.lease_table.specs.declared.standing.Abandoned.{Abandoned}
 use Rattle.lease_table.specs.declared.standing.Abandoned.TheVariants.{Freed, Lost as NotHeld}
-use Rattle.lease_table.specs.Standings.{standing_at, IsDone, expired}
+use Rattle.lease_table.specs.Standings.{standing_at, expired}
 use Rattle.lease_table.specs.Machine.{Machine, lease_end}
-use Rattle.lease_table.specs.Runs.{Publication, World, Step, Claim, Publish, Abandon, Expire, Advance, End, Crash, Takes, Runs, begun, is_key, artifact_of, newest_round, IsNoCrash, HasNoCrash, StaysDone, IsTicketBelow}
-use Rattle.lease_table.proofs.Runs.{is_done, done_is, claimable_is, leased_is, holder, IsSound, key_parts, more, retasked, set_done, set_below, expired_at, expired_done, expired_below, stored, advanced, reopened}
+use Rattle.lease_table.specs.Runs.{Publication, World, Step, Claim, Publish, Abandon, Expire, Advance, End, Crash, Takes, Runs, begun, is_key, artifact_of, newest_round, IsNoCrash, HasNoCrash, StaysDone}
+use Rattle.lease_table.proofs.Runs.{is_done, claimable_is, leased_is, holder, IsSound, key_parts, more, retasked, set_done, set_below, expired_at, expired_done, expired_below, stored, advanced, reopened}
 
 -- every world that a run reaches is sound
 pub sound_begun : (tasks : ℕ) → IsSound (begun tasks).rounds (begun tasks).published (begun tasks).machine
@@ -35,11 +32,11 @@ sound_step old (Claim now term (Work task ticket)) new s t =
     let l = t.0.least in
     let leased : Standing = Leased ticket (lease_end now term) in
     rw (t.1.0, t.1.1, t.0.after) (retasked old.rounds old.published m m.ended (m.next_ticket + 1) (set m.tasks task leased) s
-      (length-set m.tasks task leased)
-      (set_done m.tasks task leased l.within (sym (claimable_is now (standing_at m.tasks task) l.claimable)))
-      (set_below m.tasks task leased (m.next_ticket + 1) l.within (omega (arith, t.0.ticket_is)) (λ other inside.
-        let next : m.next_ticket + 1 ≡ suc m.next_ticket = omega arith in
-        rw next (more m.next_ticket (standing_at m.tasks other) (s.tickets other inside)))))
+    (length-set m.tasks task leased)
+    (set_done m.tasks task leased l.within (sym (claimable_is now (standing_at m.tasks task) l.claimable)))
+    (set_below m.tasks task leased (m.next_ticket + 1) l.within (omega (arith, t.0.ticket_is)) (λ other inside.
+    let next : m.next_ticket + 1 ≡ suc m.next_ticket = omega arith in
+    rw next (more m.next_ticket (standing_at m.tasks other) (s.tickets other inside)))))
 sound_step old (Claim now term Wait) new s t = rw (t.1.0, t.1.1, t.0.3) s
 sound_step old (Claim now term RoundDone) new s t = rw (t.1.0, t.1.1, t.0.2) s
 sound_step old (Claim now term Finished) new s t = rw (t.1.0, t.1.1, t.0.1) s
@@ -50,16 +47,16 @@ sound_step old (Abandon round task ticket Freed) new s t =
     let m : Machine = old.machine in
     let held = holder m.tasks task ticket t.0.0.1 in
     rw (t.1.0, t.1.1, t.0.1) (retasked old.rounds old.published m m.ended m.next_ticket (set m.tasks task Free) s
-      (length-set m.tasks task Free)
-      (set_done m.tasks task Free held.0 (sym (leased_is ticket (standing_at m.tasks task) held.1)))
-      (set_below m.tasks task Free m.next_ticket held.0 tt s.tickets))
+    (length-set m.tasks task Free)
+    (set_done m.tasks task Free held.0 (sym (leased_is ticket (standing_at m.tasks task) held.1)))
+    (set_below m.tasks task Free m.next_ticket held.0 tt s.tickets))
 sound_step old (Abandon round task ticket (NotHeld now standing)) new s t = rw (t.1.0, t.1.1, t.0.3) s
 sound_step old (Expire now freed) new s t =
     let m : Machine = old.machine in
     rw (t.1.0, t.1.1, t.0.1) (retasked old.rounds old.published m m.ended m.next_ticket (map (expired now) m.tasks) s
-      (length-map m.tasks (expired now))
-      (λ task. rw (expired_at now m.tasks task) (expired_done now (standing_at m.tasks task)))
-      (λ task inside. rw (expired_at now m.tasks task) (expired_below now m.next_ticket (standing_at m.tasks task) (s.tickets task inside))))
+    (length-map m.tasks (expired now))
+    (λ task. rw (expired_at now m.tasks task) (expired_done now (standing_at m.tasks task)))
+    (λ task inside. rw (expired_at now m.tasks task) (expired_below now m.next_ticket (standing_at m.tasks task) (s.tickets task inside))))
 sound_step old (Advance tasks) new s t = rw (t.1, t.2, t.0.2) (advanced old.rounds old.published old.machine tasks s t.0.0)
 sound_step old End new s t =
     let m : Machine = old.machine in
@@ -91,13 +88,13 @@ artifact_step : (old : World) (step : Step) (new : World) → IsSound old.rounds
 unfolding Publishes
 artifact_step old step new s t round task artifact had =
     elim (published_step old step new t) [
-      inl same ↦ rw same had
-    | inr more ↦ rw more.1 (elim (cases_Bool (is_key more.0 round task)) [
-        inl key ↦ (let parts = key_parts more.0 round task key in
-          let place : is_some (artifact_of old.published old.machine.round more.0.task) ≡ true = rw (parts.1, ← more.2, parts.0, had) refl in
-          let open' : is_some (artifact_of old.published old.machine.round more.0.task) ≡ false = s.done more.0.task more.3 ∙ more.4 in
-          absurd (let contradiction : ⊥ = cc in contradiction))
-      | inr other ↦ rw other had
+      | inl same ↦ rw same had
+      | inr more ↦ rw more.1 (elim (cases_Bool (is_key more.0 round task)) [
+        | inl key ↦ (let parts = key_parts more.0 round task key in
+            let place : is_some (artifact_of old.published old.machine.round more.0.task) ≡ true = rw (parts.1, ← more.2, parts.0, had) refl in
+            let open' : is_some (artifact_of old.published old.machine.round more.0.task) ≡ false = s.done more.0.task more.3 ∙ more.4 in
+            absurd (let contradiction : ⊥ = cc in contradiction))
+        | inr other ↦ rw other had
       ])
     ]
 
@@ -119,8 +116,8 @@ published_run steps old new s r round task had =
 published_by : (w : World) → IsSound w.rounds w.published w.machine → (round task : ℕ) → is_some (artifact_of w.published round task) ≡ true → round ≤ w.machine.round
 published_by w s round task had =
     elim (cases_lt (newest_round w.published) round) [
-      inl later ↦ (let none = s.ahead round task later in absurd (let contradiction : ⊥ = cc in contradiction))
-    | inr by ↦ omega (arith, s.newest)
+      | inl later ↦ (let none = s.ahead round task later in absurd (let contradiction : ⊥ = cc in contradiction))
+      | inr by ↦ omega (arith, s.newest)
     ]
 
 -- the number of tasks of a round that both worlds have stays
@@ -158,8 +155,8 @@ stays_put m = record { next = omega arith; way = inl (refl, λ task ticket done.
 set_stays : (tasks : List Standing) (at : ℕ) (s : Standing) → is_done (standing_at tasks at) ≡ false → (task ticket : ℕ) → DoneBy tasks task ticket → DoneBy (set tasks at s) task ticket
 set_stays tasks at s not_done task ticket done =
     elim (cases_eq task at) [
-      inl here ↦ absurd (let is : is_done (standing_at tasks at) ≡ true = rw (← here, done.1) refl in let contradiction : ⊥ = cc in contradiction)
-    | inr other ↦ (rw (length-set tasks at s) done.0, rw (get_or-set_other tasks at task s Free other) done.1)
+      | inl here ↦ absurd (let is : is_done (standing_at tasks at) ≡ true = rw (← here, done.1) refl in let contradiction : ⊥ = cc in contradiction)
+      | inr other ↦ (rw (length-set tasks at s) done.0, rw (get_or-set_other tasks at task s Free other) done.1)
     ]
 
 moves : (old : World) (step : Step) (new : World) → IsNoCrash step → Takes old step new → Moves old.machine new.machine
@@ -177,8 +174,14 @@ moves old (Abandon round task ticket Freed) new none t =
     rw t.0.1 (record { next = omega arith; way = inl (refl, set_stays old.machine.tasks task Free (leased_is ticket (standing_at old.machine.tasks task) held.1)) })
 moves old (Abandon round task ticket (NotHeld now standing)) new none t = rw t.0.3 (stays_put old.machine)
 moves old (Expire now freed) new none t =
-    rw t.0.1 (record { next = omega arith; way = inl (refl, λ task ticket done.
-      (rw (length-map old.machine.tasks (expired now)) done.0, rw (expired_at now old.machine.tasks task, done.1) refl)) })
+    rw t.0.1 (record {
+      next = omega arith;
+      way = inl (
+        refl,
+        λ task ticket done.
+            (rw (length-map old.machine.tasks (expired now)) done.0, rw (expired_at now old.machine.tasks task, done.1) refl),
+      );
+    })
 moves old (Advance tasks) new none t = rw t.0.2 (record { next = omega arith; way = inr refl })
 moves old End new none t = rw t.0.2 (record { next = omega arith; way = inl (refl, λ task ticket done. done) })
 moves old Crash new none t = absurd none
@@ -191,8 +194,8 @@ next_run (step ∷ steps) old new none r =
 ticket_step : (old new : Machine) → Moves old new → (round task ticket : ℕ) → round ≤ old.round → (old.round ≡ round → DoneBy old.tasks task ticket) → (round ≤ new.round) × (new.round ≡ round → DoneBy new.tasks task ticket)
 ticket_step old new m round task ticket by done =
     elim m.way [
-      inl same ↦ (omega (arith, same.0), λ now. same.1 task ticket (done (sym same.0 ∙ now)))
-    | inr next ↦ (omega arith, λ now. absurd (omega arith))
+      | inl same ↦ (omega (arith, same.0), λ now. same.1 task ticket (done (sym same.0 ∙ now)))
+      | inr next ↦ (omega arith, λ now. absurd (omega arith))
     ]
 
 ticket_run : (steps : List Step) (old new : World) → HasNoCrash steps → Runs old steps new → (round task ticket : ℕ) → round ≤ old.machine.round → (old.machine.round ≡ round → DoneBy old.machine.tasks task ticket) → new.machine.round ≡ round → DoneBy new.machine.tasks task ticket
@@ -219,11 +222,11 @@ stays_done steps old new s r task ticket done =
     record {
       round_stays = published_by new sound old.machine.round task has;
       done = λ now.
-        let within : task < slice_index old.rounds old.machine.round = rw s.count at inside in
-        let there : task < slice_index new.rounds old.machine.round = within_run steps old new s r old.machine.round task had within in
-        let here : task < length new.machine.tasks = rw (sound.count, now) there in
-        let found = done_by (standing_at new.machine.tasks task) (sym (sound.done task here) ∙ rw now has) in
-        (found.0, from_done new.machine.tasks task found.0 (here, found.1));
+          let within : task < slice_index old.rounds old.machine.round = rw s.count at inside in
+          let there : task < slice_index new.rounds old.machine.round = within_run steps old new s r old.machine.round task had within in
+          let here : task < length new.machine.tasks = rw (sound.count, now) there in
+          let found = done_by (standing_at new.machine.tasks task) (sym (sound.done task here) ∙ rw now has) in
+          (found.0, from_done new.machine.tasks task found.0 (here, found.1));
       by_ticket = λ none now. from_done new.machine.tasks task ticket (ticket_run steps old new none r old.machine.round task ticket (omega arith) (λ same. (inside, is)) now);
     }
 

@@ -1,8 +1,7 @@
-use Rattle.std.specs.Prelude.{◌≡◌, ℕ, ◌+◌, ◌<◌, ◌≤◌, Bool, true, false, if◌then◌else◌, ◌&&◌, ◌==◌, Option, Some, None, List, [], ◌∷◌, ◌++◌, length, take, slice_get, slice_index}
+use Rattle.std.specs.Prelude.{◌≡◌, ℕ, ◌+◌, ◌<◌, ◌≤◌, Bool, false, if◌then◌else◌, ◌&&◌, ◌==◌, Option, Some, None, List, [], ◌∷◌, ◌++◌, length, take, slice_get, slice_index}
 use Rattle.lease_table.specs.declared.standing.Standing.{Standing}
 use Rattle.lease_table.specs.declared.standing.Standing.TheVariants.{Free, Leased, Done}
 use Rattle.lease_table.specs.declared.standing.Claimed.{Claimed}
-use Rattle.lease_table.specs.declared.standing.Claimed.TheVariants.{Work}
 use Rattle.lease_table.specs.declared.standing.Published.{Published}
 use Rattle.lease_table.specs.declared.standing.Published.TheVariants.{Stored, Lost}
 use Rattle.lease_table.specs.declared.standing.Abandoned.{Abandoned}
@@ -51,6 +50,11 @@ pub record IsReopened (rounds : List ℕ) (published : List Publication) (machin
   pub next_ticket : machine.next_ticket ≡ length published
   pub count : length machine.tasks ≡ slice_index rounds machine.round
   pub tasks : (task : ℕ) → task < length machine.tasks → standing_at machine.tasks task ≡ kept_standing (place_of published machine.round task)
+
+-- no publication is of an earlier round than one before it
+abbrev pub IsInRoundOrder : List Publication → Type 0
+IsInRoundOrder [] = Unit {0}
+IsInRoundOrder (p ∷ earlier) = (newest_round earlier ≤ p.round) × IsInRoundOrder earlier
 
 -- what may happen, with the answer that it gets; a crash inside a publication is one before it or after it
 pub data Step : Type 0 where

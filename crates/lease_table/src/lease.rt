@@ -104,7 +104,7 @@ impl Lease {
             Some(task) => {
                 let ticket = self.next_ticket;
                 let until = now.saturating_add(term);
-                self.next_ticket += 1;
+                self.next_ticket = ticket + 1;
                 self.tasks.set(task, Standing::Leased { ticket, until });
                 Claimed::Work { task, ticket }
             }
@@ -135,7 +135,12 @@ impl Lease {
         ensures room { self.new.room ≡ self.old.room }
     {
         match self.found(round, task) {
-            Some(Standing::Leased { ticket: leased, .. }) if leased == ticket => {
+            Some(
+                Standing::Leased {
+                    ticket: current,
+                    ..
+                },
+            ) if current == ticket => {
                 self.tasks.set(task, Standing::Done { ticket });
                 Published::Stored
             }

@@ -5,8 +5,10 @@ mod laws;
 mod lease;
 mod standing;
 mod tasks;
+#[cfg(test)]
+mod tests;
 mod times;
 
-pub use laws::{artifacts_stay, done_tasks_stay, rounds_are_full, tickets_rise};
+pub use laws::{artifacts_stay, done_tasks_stay, kept_one_by_one, rounds_are_full, tickets_rise};
 pub use lease::Lease;
 pub use standing::{Abandoned, Claimed, Published, Standing};
