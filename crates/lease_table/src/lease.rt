@@ -135,12 +135,7 @@ impl Lease {
         ensures room { self.new.room ≡ self.old.room }
     {
         match self.found(round, task) {
-            Some(
-                Standing::Leased {
-                    ticket: current,
-                    ..
-                },
-            ) if current == ticket => {
+            Some(Standing::Leased { ticket: by, .. }) if by == ticket => {
                 self.tasks.set(task, Standing::Done { ticket });
                 Published::Stored
             }
