@@ -1,0 +1,14 @@
+//! The lease machine: which tasks of a round are free, leased or done, and who may publish what.
+#![tactic(auto)]
+
+mod laws;
+mod lease;
+mod standing;
+mod tasks;
+#[cfg(test)]
+mod tests;
+mod times;
+
+pub use laws::{artifacts_stay, done_tasks_stay, kept_one_by_one, rounds_are_full, tickets_rise};
+pub use lease::Lease;
+pub use standing::{Abandoned, Claimed, Published, Standing};
