@@ -1,0 +1,5 @@
+pub mod Words
+pub mod Colours
+pub mod Sound
+pub mod Outcome
+pub mod Endings
