@@ -1,0 +1,2 @@
+/* No comment is accepted yet. */
+int main(void){ return 0; }
