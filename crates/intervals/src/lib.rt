@@ -13,10 +13,9 @@ mod products;
 mod quotients;
 mod remainders;
 mod shifts;
-mod unary_forms;
-
 #[cfg(test)]
 mod tests;
+mod unary_forms;
 
 pub use binary_forms::binary;
 pub use casting::cast;

@@ -4,7 +4,7 @@ ghost use Rattle.std.specs.Prelude.{◌≡◌, true};
 ghost use Rattle.intervals.specs.Intervals.{IsIn};
 
 use super::*;
-use c_values::{is_inside, Cmp, IntType, Op, UnOp};
+use c_values::{Cmp, IntType, Op, UnOp, is_inside};
 
 fn between(low: i128, high: i128) -> Interval
     ensures low { result.low ≡ low }
@@ -68,15 +68,43 @@ fn binary_forms_have_all_results(rt: HostRuntime) {
         (Op::Xor, IntType::UChar, 0, 7, 0, 8, Some((0, 15))),
         (Op::Xor, IntType::SChar, -6, -6, 13, 13, Some((-9, -9))),
         (Op::Rem, IntType::UInt, 0, 4294967295, 16, 16, Some((0, 15))),
-        (Op::Sub, IntType::UInt, 0, 0, 1, 1, Some((4294967295, 4294967295))),
-        (Op::Mul, IntType::ULongLong, 18446744073709551615, 18446744073709551615, 18446744073709551615, 18446744073709551615, Some((1, 1))),
-        (Op::And, IntType::Int, -8, -1, -4, -2, Some((-2147483648, 2147483647))),
+        (
+            Op::Sub,
+            IntType::UInt,
+            0,
+            0,
+            1,
+            1,
+            Some((4294967295, 4294967295)),
+        ),
+        (
+            Op::Mul,
+            IntType::ULongLong,
+            18446744073709551615,
+            18446744073709551615,
+            18446744073709551615,
+            18446744073709551615,
+            Some((1, 1)),
+        ),
+        (
+            Op::And,
+            IntType::Int,
+            -8,
+            -1,
+            -4,
+            -2,
+            Some((-2147483648, 2147483647)),
+        ),
     ] {
         let left = between(a, b);
         let right = between(c, d);
         assert!(rt; is_in(t, left));
         assert!(rt; is_in(t, right));
-        assert_eq!(rt; ends(binary(op, t, left, right)), want, "{op:?} of {t:?} at {left:?} and {right:?}");
+        assert_eq!(rt;
+            ends(binary(op, t, left, right)),
+            want,
+            "{op:?} of {t:?} at {left:?} and {right:?}"
+        );
     }
 }
 
@@ -92,7 +120,11 @@ fn unary_forms_have_all_results(rt: HostRuntime) {
     ] {
         let operand = between(a, b);
         assert!(rt; is_in(t, operand));
-        assert_eq!(rt; ends(unary(op, t, operand)), want, "{op:?} of {t:?} at {operand:?}");
+        assert_eq!(rt;
+            ends(unary(op, t, operand)),
+            want,
+            "{op:?} of {t:?} at {operand:?}"
+        );
     }
 }
 
@@ -134,7 +166,11 @@ fn comparisons_have_all_results(rt: HostRuntime) {
         assert!(rt; a <= b);
         assert!(rt; c <= d);
         let truth = compare(cmp, between(a, b), between(c, d));
-        assert_eq!(rt; (truth.low, truth.high), want, "{cmp:?} of {a} to {b} and {c} to {d}");
+        assert_eq!(rt;
+            (truth.low, truth.high),
+            want,
+            "{cmp:?} of {a} to {b} and {c} to {d}"
+        );
     }
 }
 
@@ -146,7 +182,10 @@ fn others_are_as_worked(rt: HostRuntime) {
     assert_eq!(rt; (kept.low, kept.high), (0, 2147483647));
     let same = widen(between(0, 5), between(2, 5), range_of(IntType::Int));
     assert_eq!(rt; (same.low, same.high), (0, 5));
-    assert_eq!(rt; ends(pointer_difference(between(0, 40), between(0, 8), 4)), Some((-2, 10)));
+    assert_eq!(rt;
+        ends(pointer_difference(between(0, 40), between(0, 8), 4)),
+        Some((-2, 10))
+    );
     let truth = pointer_comparison();
     assert_eq!(rt; (truth.low, truth.high), (0, 1));
     let any = pointer_to_int(IntType::UChar);
