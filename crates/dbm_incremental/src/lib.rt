@@ -7,3 +7,6 @@ mod pending;
 
 pub use one_bound::tighten;
 pub use pending::Pending;
+
+#[cfg(test)]
+mod tests;

@@ -8,6 +8,7 @@ use dbm_matrix::{Closing, Matrix};
 use std::marker::Model;
 
 /// Up to 32 bounds that wait to be added to a matrix together, in the order in which they came.
+#[derive(Drop)]
 pub struct Pending {
     count: usize,
     bounds: [(usize, usize, i128); 32],
