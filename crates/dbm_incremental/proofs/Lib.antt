@@ -1,0 +1,3 @@
+pub mod Tightening
+pub mod Together
+mod Examples
