@@ -1,0 +1,5 @@
+pub mod Calls
+pub mod Laws
+pub mod Media
+pub mod MediumLaws
+pub mod Views

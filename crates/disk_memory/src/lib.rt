@@ -1,0 +1,10 @@
+//! Disks in memory, which keep each call and so tell what a crash at any moment may leave. One form fails when it is told
+//! to, the other never.
+#![tactic(auto)]
+
+mod medium;
+mod memory_disk;
+mod sure_disk;
+
+pub use memory_disk::MemoryDisk;
+pub use sure_disk::SureDisk;
