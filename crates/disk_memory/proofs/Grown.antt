@@ -1,8 +1,8 @@
 -- One call more.
-use Rattle.std.proofs.Common.{◌≡◌, ℕ, ◌+◌, ◌≤◌, ◌<◌, ◌⊎◌, inl, inr, Bool, true, false, cond, List, [], ◌∷◌, ◌++◌, length, take, drop, refl, sym, ◌∙◌, ap, subst, arith, length-append, length-drop}
+use Rattle.std.proofs.Common.{◌≡◌, ℕ, ◌+◌, ◌≤◌, inl, inr, Bool, true, false, List, [], ◌∷◌, ◌++◌, length, take, drop, refl, sym, ◌∙◌, ap, subst, arith, length-append, length-drop}
 use Rattle.std.proofs.lemmas.Bool.{cases_lt}
 use Rattle.std.proofs.lemmas.List.{take_all, take-append-le, drop-append-le}
-use Rattle.sv_outside.specs.Disk.{Torn, Elapses, Follows, Holds}
+use Rattle.sv_outside.specs.Disk.{Elapses}
 use Rattle.disk_memory.specs.Calls.{Op, ops_of, bytes_of, reads, read_after, past_end, all_past_end, left_after, leaves, image, image_since}
 use Rattle.disk_memory.specs.Calls.Op.{wrote, cut, synced}
 use Rattle.disk_memory.specs.Laws.{length-ops_of}
@@ -59,9 +59,9 @@ pub elapses_push : (first : List ℕ) (ops : List Op) (op : Op) → Elapses (len
 elapses_push first ops op = record {
   later = omega (arith, length-append ops (op ∷ []));
   nothing_else = λ t c le s. elim (cases_lt (length ops) s.0) [
-      inl h ↦ inr (let e = take_all s.0 (ops ++ op ∷ []) (omega (arith, length-append ops (op ∷ []), h)) in subst (λ (l : List Op). image first l c) e s.3)
-      | inr h ↦ inl (s.0, s.1, h, subst (λ (l : List Op). image first l c) (short ops op s.0 h) s.3)
-    ];
+    | inl h ↦ inr (let e = take_all s.0 (ops ++ op ∷ []) (omega (arith, length-append ops (op ∷ []), h)) in subst (λ (l : List Op). image first l c) e s.3)
+    | inr h ↦ inl (s.0, s.1, h, subst (λ (l : List Op). image first l c) (short ops op s.0 h) s.3)
+  ];
   keeps = λ t c le s. (s.0, s.1, omega (arith, s.2, length-append ops (op ∷ [])), subst (λ (l : List Op). image first l c) (sym (short ops op s.0 s.2)) s.3);
 }
 

@@ -1,6 +1,6 @@
 -- The laws of a disk that keeps its calls.
-use Rattle.std.specs.Prelude.{◌≡◌, ℕ, ◌+◌, ◌≤◌, ◌⊎◌, Bool, true, false, cond, List, [], ◌∷◌, ◌++◌, length, take, drop}
-use Rattle.std.proofs.Common.{refl, sym, ◌∙◌, ap, subst, arith, inl, inr, max, append_assoc, length-append, length-take, length-drop}
+use Rattle.std.specs.Prelude.{◌≡◌, ℕ, ◌+◌, ◌≤◌, true, false, List, [], ◌∷◌, ◌++◌, length, take, drop}
+use Rattle.std.proofs.Common.{refl, ◌∙◌, ap, arith, append_assoc, length-append, length-take, length-drop}
 use Rattle.std.proofs.lemmas.List.{take_all, take_at, drop_at}
 use Rattle.sv_outside.specs.Disk.{Torn}
 use Rattle.disk_memory.specs.Calls.{Op, ops_of, reads, read_after, past_end, all_past_end, left_after, leaves, image, image_since}

@@ -5,6 +5,8 @@
 mod medium;
 mod memory_disk;
 mod sure_disk;
+#[cfg(test)]
+mod tests;
 
 pub use memory_disk::MemoryDisk;
 pub use sure_disk::SureDisk;

@@ -1,10 +1,9 @@
-use Rattle.std.proofs.Common.{◌≡◌, ◌≤◌, ℕ, ◌+◌, ◌++◌, ◌∷◌, [], Bool, true, List, length, take, drop, refl, sym, ◌∙◌, ap, subst, arith, length-append}
-use Rattle.disk_memory.specs.Calls.{Op, ops_of, bytes_of, image, reads, read_after, left_after}
-use Rattle.disk_memory.specs.Calls.Op.{wrote, cut, synced}
+use Rattle.std.proofs.Common.{◌≡◌, ℕ, ◌++◌, ◌∷◌, [], List, refl, sym, ◌∙◌, ap, subst, arith}
+use Rattle.disk_memory.specs.Calls.{ops_of, bytes_of, image, reads, left_after}
+use Rattle.disk_memory.specs.Calls.Op.{synced}
 use Rattle.disk_memory.specs.Laws.{reads_is_image}
-use Rattle.disk_memory.specs.declared.medium.Call.{Call}
-use Rattle.disk_memory.specs.declared.medium.Call.TheVariants.{Write, Cut, Sync}
-use Rattle.disk_memory.proofs.Grown.{ops_of-sync, ops_of-cut, ops_of-write, bytes_of-append, noted_crash, noted_time, noted_placed, noted_reads, done_left, kept_left}
+use Rattle.disk_memory.specs.declared.medium.Call.TheVariants.{Sync}
+use Rattle.disk_memory.proofs.Grown.{ops_of-sync, bytes_of-append, noted_crash, noted_time, noted_placed, noted_reads, done_left, kept_left}
 use Rattle.disk_memory.proofs.medium.Medium.sync.Goals as goal
 use Rattle.disk_memory.proofs.medium.Medium.sync.Goals.{After-push_reserved}
 
@@ -35,7 +34,7 @@ returns-clause-crash c = λ x h.
     let d = c.args.self.now in
     let ops = ops_of d.calls.items d.store.items in
     kept_left (reads d.first.items ops) (image d.first.items ops) c.args.done x
-      (subst (image d.first.items ops) d.replays (reads_is_image d.first.items ops d.bytes.items d.replays d.placed)) (crashes (goal.at.returns-clause-crash c).After-push_reserved x h)
+    (subst (image d.first.items ops) d.replays (reads_is_image d.first.items ops d.bytes.items d.replays d.placed)) (crashes (goal.at.returns-clause-crash c).After-push_reserved x h)
 
 pub returns-clause-time : goal.returns-clause-time
 returns-clause-time c = let d = c.args.self.now in

@@ -1,10 +1,8 @@
-use Rattle.std.proofs.Common.{◌≡◌, ◌≤◌, ℕ, ◌+◌, ◌++◌, ◌∷◌, [], Bool, true, List, length, take, drop, refl, sym, ◌∙◌, ap, subst, arith, length-append}
-use Rattle.disk_memory.specs.Calls.{Op, ops_of, bytes_of, image, reads, read_after, left_after}
-use Rattle.disk_memory.specs.Calls.Op.{wrote, cut, synced}
-use Rattle.disk_memory.specs.Laws.{reads_is_image}
-use Rattle.disk_memory.specs.declared.medium.Call.{Call}
-use Rattle.disk_memory.specs.declared.medium.Call.TheVariants.{Write, Cut, Sync}
-use Rattle.disk_memory.proofs.Grown.{ops_of-sync, ops_of-cut, ops_of-write, bytes_of-append, noted_crash, noted_time, noted_placed, noted_reads, done_left, kept_left}
+use Rattle.std.proofs.Common.{◌≡◌, ℕ, ◌++◌, ◌∷◌, [], List, length, sym, ◌∙◌, ap, arith, length-append}
+use Rattle.disk_memory.specs.Calls.{Op, ops_of, bytes_of, read_after}
+use Rattle.disk_memory.specs.Calls.Op.{wrote}
+use Rattle.disk_memory.specs.declared.medium.Call.TheVariants.{Write}
+use Rattle.disk_memory.proofs.Grown.{ops_of-write, bytes_of-append, noted_crash, noted_time, noted_placed, noted_reads}
 use Rattle.disk_memory.proofs.medium.Medium.write.Goals as goal
 use Rattle.disk_memory.proofs.medium.Medium.write.Goals.{After-push_reserved}
 
