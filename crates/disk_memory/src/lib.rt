@@ -2,11 +2,14 @@
 //! to, the other never.
 #![tactic(auto)]
 
+mod disks;
 mod medium;
 mod memory_disk;
+mod named;
 mod sure_disk;
 #[cfg(test)]
 mod tests;
 
+pub use disks::{MemoryDisks, SureDisks};
 pub use memory_disk::MemoryDisk;
 pub use sure_disk::SureDisk;

@@ -61,7 +61,7 @@ fn cut_if(done: bool, bytes: &mut Vec<u8>, to: usize)
 }
 
 impl Medium {
-    ghost use Rattle.std.specs.Prelude.{◌≡◌, ◌≤◌, ◌+◌, true, List, ℕ, length, take, drop, OnOk, IfOk};
+    ghost use Rattle.std.specs.Prelude.{◌≡◌, ◌≤◌, ◌+◌, [], true, List, ℕ, length, take, drop, OnOk, IfOk};
     ghost use Rattle.sv_outside.specs.Disk.{Only, Follows, Torn, Cut, Holds, Elapses, IsStill, HasRoom, TakesRoom};
     ghost use Rattle.disk_memory.specs.Media.{medium_seen, medium_images, medium_moment, medium_since, medium_room};
 
@@ -78,6 +78,20 @@ impl Medium {
             calls: Vec::new(alloc),
             store: Vec::new(alloc),
         })
+    }
+
+    /// A disk that holds nothing.
+    pub(crate) fn empty(alloc: Global) -> Medium
+        ensures seen { medium_seen result ≡ [] }
+        ensures images { (c : List ℕ) → (medium_images result c → c ≡ []) × (c ≡ [] → medium_images result c) }
+        ensures moment { medium_moment result ≡ 0 }
+    {
+        Medium {
+            first: Vec::new(alloc),
+            bytes: Vec::new(alloc),
+            calls: Vec::new(alloc),
+            store: Vec::new(alloc),
+        }
     }
 
     /// Makes room.

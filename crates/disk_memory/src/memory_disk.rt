@@ -14,11 +14,11 @@ pub struct MemoryDisk {
 }
 
 impl MemoryDisk {
-    ghost use Rattle.std.specs.Prelude.{◌≡◌, ◌≤◌, true, false, IfOk};
+    ghost use Rattle.std.specs.Prelude.{◌≡◌, ◌≤◌, [], ℕ, List, true, false, IfOk};
     ghost use Rattle.sv_outside.specs.Outside.{Rose};
     ghost use Rattle.sv_outside.specs.Disk.{Only};
     ghost use Rattle.disk_memory.specs.Media.{medium_seen, medium_images};
-    ghost use Rattle.disk_memory.specs.Views.{memory_seen, memory_images, memory_faults};
+    ghost use Rattle.disk_memory.specs.Views.{memory_seen, memory_images, memory_moment, memory_faults};
 
     /// A disk that holds this, all of it on the disk. Calls are numbered from 0, those of `reserve` aside; a call fails
     /// that `failing` names, or that is `stop` or later.
@@ -40,6 +40,22 @@ impl MemoryDisk {
             number: 0,
             faults: 0,
         })
+    }
+
+    /// A disk that holds nothing and never fails.
+    pub(crate) fn empty(alloc: Global) -> MemoryDisk
+        ensures seen { memory_seen result ≡ [] }
+        ensures images { (c : List ℕ) → (memory_images result c → c ≡ []) × (c ≡ [] → memory_images result c) }
+        ensures moment { memory_moment result ≡ 0 }
+        ensures faults { memory_faults result ≡ 0 }
+    {
+        MemoryDisk {
+            medium: Medium::empty(alloc),
+            failing: Vec::new(alloc),
+            stop: None,
+            number: 0,
+            faults: 0,
+        }
     }
 
     // Counts a call, and says whether it is done.

@@ -10,9 +10,9 @@ pub struct SureDisk {
 }
 
 impl SureDisk {
-    ghost use Rattle.std.specs.Prelude.{◌≡◌, IfOk};
+    ghost use Rattle.std.specs.Prelude.{◌≡◌, [], ℕ, List, IfOk};
     ghost use Rattle.sv_outside.specs.Disk.{Only};
-    ghost use Rattle.disk_memory.specs.Views.{sure_seen, sure_images};
+    ghost use Rattle.disk_memory.specs.Views.{sure_seen, sure_images, sure_moment};
 
     /// A disk that holds this, all of it on the disk.
     pub fn new(alloc: Global, image: Vec<u8>) -> Result<SureDisk, NoMemory>
@@ -21,6 +21,17 @@ impl SureDisk {
     {
         let medium = Medium::new(alloc, image)?;
         Ok(SureDisk { medium })
+    }
+
+    /// A disk that holds nothing.
+    pub(crate) fn empty(alloc: Global) -> SureDisk
+        ensures seen { sure_seen result ≡ [] }
+        ensures images { (c : List ℕ) → (sure_images result c → c ≡ []) × (c ≡ [] → sure_images result c) }
+        ensures moment { sure_moment result ≡ 0 }
+    {
+        SureDisk {
+            medium: Medium::empty(alloc),
+        }
     }
 }
 
