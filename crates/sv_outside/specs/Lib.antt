@@ -1,3 +1,4 @@
+pub mod Disk
 pub mod Outside
 pub mod Memory
 pub mod MemoryViews

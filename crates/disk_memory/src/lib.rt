@@ -1,0 +1,15 @@
+//! Disks in memory, which keep each call and so tell what a crash at any moment may leave. One form fails when it is told
+//! to, the other never.
+#![tactic(auto)]
+
+mod disks;
+mod medium;
+mod memory_disk;
+mod named;
+mod sure_disk;
+#[cfg(test)]
+mod tests;
+
+pub use disks::{MemoryDisks, SureDisks};
+pub use memory_disk::MemoryDisk;
+pub use sure_disk::SureDisk;

@@ -1,0 +1,4 @@
+pub mod Format
+pub mod Gates
+pub mod Journals
+pub mod Pieces
