@@ -1,0 +1,3 @@
+mod Values
+mod Plain
+mod Entered
