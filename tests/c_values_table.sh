@@ -1,5 +1,5 @@
 #!/usr/bin/env bash
-# Makes the tables of crates/c_values/src/tests.rt with a C compiler: each row runs as a C expression, the undefined
+# Makes the tables of the tests of crates/c_values with a C compiler: each row runs as a C expression, the undefined
 # behaviour sanitizer names the cause of an undefined one, and conversions to signed types wrap as the compiler's do.
 # Types of a fixed width stand for the types of a machine whose long has 32 bits.
 # Usage: tests/c_values_table.sh   (needs gcc, or another compiler with that sanitizer in CC)
@@ -114,3 +114,70 @@ binary Xor LongLong MIN64 9223372036854775807LL
 echo '// unary operators'
 unary Neg Int MIN32; unary Neg Int 2147483647; unary Neg UInt 1; unary Neg UInt 0; unary Neg LongLong MIN64
 unary Not Int 0; unary Not Int MIN32; unary Not UInt 1; unary Not ULongLong 0
+
+# Every operator over every pair of boundary values of each type that operands have after the promotions (6.3.1.1); the right
+# operand of a shift is a count about zero and about the width.
+boundaries() {
+    case $1 in
+        Int | Long) echo '-2147483648 -2147483647 -1 0 1 2147483646 2147483647' ;;
+        UInt | ULong) echo '0 1 4294967294 4294967295' ;;
+        LongLong) echo '-9223372036854775808 -9223372036854775807 -1 0 1 9223372036854775806 9223372036854775807' ;;
+        ULongLong) echo '0 1 18446744073709551614 18446744073709551615' ;;
+    esac
+}
+
+counts() {
+    case $1 in
+        LongLong | ULongLong) echo '-1 0 1 62 63 64' ;;
+        *) echo '-1 0 1 30 31 32' ;;
+    esac
+}
+
+compile() { # a program that reads its operands from its words
+    cat > "$folder/pair.c" <<END
+#include <stdint.h>
+#include <stdio.h>
+#include <stdlib.h>
+static $1 left(const char *text) { return ($1)(text[0] == '-' ? strtoll(text, 0, 10) : strtoull(text, 0, 10)); }
+static $2 right(const char *text) { return ($2)(text[0] == '-' ? strtoll(text, 0, 10) : strtoull(text, 0, 10)); }
+int main(int count, char **words) {
+    volatile $1 a = left(words[1]);
+    volatile $2 b = right(words[2]);
+    $1 r = $3;
+    if (r < 0) printf("%lld", (long long)r); else printf("%llu", (unsigned long long)r);
+    return 0;
+}
+END
+    ${CC:-gcc} -std=c99 -w -fsanitize=undefined -fno-sanitize-recover=all -o "$folder/pair" "$folder/pair.c"
+}
+
+answer() { # what the program gives for two operands: the value, or a word for its cause
+    if "$folder/pair" "$1" "$2" 2> "$folder/why"; then
+        return
+    fi
+    case $(cat "$folder/why") in
+        *'division by zero'*) printf zero ;;
+        *'shift exponent'*) printf count ;;
+        *'left shift of'*) printf value ;;
+        *'cannot be represented'*) printf overflow ;;
+        *) cat "$folder/why" >&2; exit 1 ;;
+    esac
+}
+
+echo '// every operator, type and left operand: the answers for all right operands'
+for op in Add Sub Mul Div Rem Shl Shr And Or Xor; do
+    for type in Int UInt Long ULong LongLong ULongLong; do
+        right=${type_of[$type]}
+        rights=$(boundaries $type)
+        case $op in Shl | Shr) right=int64_t rights=$(counts $type) ;; esac
+        compile "${type_of[$type]}" "$right" "a ${sign_of[$op]} b"
+        for a in $(boundaries $type); do
+            printf '%s %s %s:' $op $type "$a"
+            for b in $rights; do
+                printf ' '
+                answer "$a" "$b"
+            done
+            echo
+        done
+    done
+done

@@ -1,6 +1,8 @@
 // The rows are printed by tests/c_values_table.sh, which has a C compiler compute them.
 use super::*;
 
+mod boundaries;
+
 #[test]
 fn ranges_are_those_of_c(rt: HostRuntime) {
     for (t, low, high) in [
