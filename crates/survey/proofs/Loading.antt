@@ -1,6 +1,6 @@
 -- How a call ends, from how its load and its check ended.
-use Rattle.std.proofs.Common.{◌≡◌, ◌⊎◌, ℕ, ◌<◌, ◌≤◌, List, length, Option, Some, None, refl, sym, ap, inl, inr}
-use Rattle.std.specs.Prelude.{IfSome, IsSome}
+use Rattle.std.proofs.Common.{◌≡◌, ℕ, ◌≤◌, List, length, Option, Some, None, refl, sym, ap, inl, inr}
+use Rattle.std.specs.Prelude.{IfSome}
 use Rattle.sv_base.specs.declared.fault.SourceFault.{SourceFault}
 use Rattle.sv_outside.specs.Outside.{Files, LoadsFrom}
 use Rattle.sv_outside.specs.declared.sources.Loaded.TheVariants as loaded
@@ -8,7 +8,7 @@ use Rattle.c_front.specs.declared.program.Program.{Program}
 use Rattle.c_front.specs.Form.{IsForm}
 use Rattle.c_front.specs.Front.{not_of_form}
 use Rattle.survey.specs.Outcome.{limit, only_file, Stands, Reads, too_large, IsFaultOf, Refuses}
-use Rattle.survey.specs.Endings.{Counts, ChecksAs, EndsAs, Ended}
+use Rattle.survey.specs.Endings.{Counts, ChecksAs, EndsAs}
 use Rattle.survey.specs.declared.ending.Ending.{Ending}
 use Rattle.survey.specs.declared.ending.Ending.TheVariants as endings
 
@@ -44,6 +44,6 @@ module _ (told : Option Files) (name bytes : List ℕ) (stands : Stands told nam
   ends_after_ok (endings.Reported answer) before now c loads h = (record { name = name; program = h.0; reads = reads h.0 h.1; gained = h.2; answers = h.3 }, loads, h.4)
   ends_after_ok endings.NotWritten before now c loads h = (record { name = name; program = h.0; reads = reads h.0 h.1; count = h.2; within = h.3; gained = h.4 }, loads, h.5)
   ends_after_ok (endings.Refused fault) before now c loads h = (refuses_form told name bytes fault stands short h.0 h.1, loads, h.3, h.2)
-  ends_after_ok endings.NoMemory before now c loads h = (refl, h.1, h.0)
+  ends_after_ok endings.NoMemory before now c loads h = (h.1, h.0)
   ends_after_ok endings.Usage before now c loads h = absurd h
   ends_after_ok endings.CannotRead before now c loads h = absurd h

@@ -1,17 +1,16 @@
 -- Each status has its cause, by how the call ended.
-use Rattle.std.proofs.Common.{◌≡◌, ◌≢◌, ◌⊎◌, ℕ, ◌<◌, ◌≤◌, Bool, true, false, cond, List, [], ◌∷◌, length, take, Option, Some, None, refl, sym, ap, ◌∙◌, subst, inl, inr, arith}
+use Rattle.std.proofs.Common.{◌≡◌, ◌≢◌, ◌⊎◌, ℕ, ◌<◌, ◌≤◌, Bool, true, false, cond, List, length, Option, Some, None, refl, sym, ap, ◌∙◌, subst, inl, inr, arith}
 use Rattle.std.specs.Prelude.{IfSome, IsSome}
 use Rattle.std.specs.List.{list_any}
 use Rattle.sv_base.specs.declared.fault.SourceFault.{SourceFault}
-use Rattle.sv_outside.specs.Outside.{Files, Rose, with_more}
+use Rattle.sv_outside.specs.Outside.{Files, Rose}
 use Rattle.c_front.specs.declared.program.Program.{Program}
 use Rattle.c_front.specs.Form.{IsForm}
 use Rattle.c_front.proofs.Both.{one_program}
-use Rattle.report.specs.Report.{is_alarm, report_status}
-use Rattle.report.specs.Faults.{fault_text}
-use Rattle.survey.specs.Colours.{lines_of, report, status}
-use Rattle.survey.specs.Outcome.{limit, Stands, Reads, Reports, ReportsSound, CutsOff, IsFaultOf, Refuses, MustRefuse, Accepts, Gives, IsStatus, IsReported, Complains, cannot_read_text}
-use Rattle.survey.specs.Endings.{Counts, EndsAs, Ended, TakesMemory, complaint_text, ToldAs, status_number}
+use Rattle.report.specs.Report.{is_alarm}
+use Rattle.survey.specs.Colours.{lines_of, status}
+use Rattle.survey.specs.Outcome.{limit, Stands, Reads, Reports, ReportsSound, CutsOff, IsFaultOf, Refuses, MustRefuse, Accepts, Gives, IsStatus, IsReported, Complains}
+use Rattle.survey.specs.Endings.{Counts, Ended, TakesMemory, complaint_text, ToldAs, status_number}
 use Rattle.survey.specs.declared.ending.Ending.{Ending}
 use Rattle.survey.specs.declared.ending.Ending.TheVariants as endings
 use Rattle.survey.proofs.Soundness.{sound}
@@ -93,10 +92,6 @@ only : (n : ℕ) → 1 < n → IsReported n → ⊥
 only n lt (inl e) = omega arith
 only n lt (inr e) = omega arith
 
-told_usage : (Told : List ℕ → Type 0) (o : Option (List ℕ)) → ToldAs o endings.Usage Told → Told (complaint_text [] endings.Usage)
-told_usage Told None t = t
-told_usage Told (Some name) t = t
-
 told_by : {file : Option (List ℕ)} (Told : List ℕ → Type 0) (e : Ending) (name : List ℕ) → file ≡ Some name → ToldAs file e Told → Told (complaint_text name e)
 told_by Told e name is t = subst (λ (f : Option (List ℕ)). ToldAs f e Told) is t
 
@@ -104,8 +99,8 @@ module _ {told : Option Files} {file : Option (List ℕ)} {before now : Option (
   -- want of memory may stand in the place of an ending whose text takes memory
   pub ended_still : (e r : Ending) → Ended e told file before now c → (r ≡ e) ⊎ ((r ≡ endings.NoMemory) × TakesMemory e) → Ended r told file before now c
   ended_still e r h (inl same) = subst (λ (x : Ending). Ended x told file before now c) (sym same) h
-  ended_still (endings.Refused fault) r h (inr (is, takes)) = subst (λ (x : Ending). Ended x told file before now c) (sym is) (record { ends = (subst IsSome (sym h.ends.0.named) refl, h.ends.2, h.ends.3) })
-  ended_still endings.CannotRead r h (inr (is, takes)) = subst (λ (x : Ending). Ended x told file before now c) (sym is) (record { ends = (h.ends.0, h.ends.2, h.ends.3) })
+  ended_still (endings.Refused fault) r h (inr (is, takes)) = subst (λ (x : Ending). Ended x told file before now c) (sym is) (record { ends = (h.ends.2, h.ends.3) })
+  ended_still endings.CannotRead r h (inr (is, takes)) = subst (λ (x : Ending). Ended x told file before now c) (sym is) (record { ends = (h.ends.2, h.ends.3) })
   ended_still (endings.Reported answer) r h (inr (is, takes)) = absurd takes
   ended_still endings.Usage r h (inr (is, takes)) = absurd takes
   ended_still endings.NotWritten r h (inr (is, takes)) = absurd takes
@@ -140,13 +135,13 @@ module _ {told : Option Files} {file : Option (List ℕ)} {before now : Option (
   usage endings.NotWritten h e = absurd (omega arith)
   usage endings.NoMemory h e = absurd (omega arith)
 
-  pub other_words : (e : Ending) → Ended e told file before now c → file ≡ None → status_number e ≡ 2
+  pub other_words : (e : Ending) → Ended e told file before now c → file ≡ None → (status_number e ≡ 2) ⊎ (status_number e ≡ 8)
   other_words (endings.Reported answer) h e = absurd (none_named file h.ends.0.name h.ends.0.reads.named e)
-  other_words endings.Usage h e = refl
+  other_words endings.Usage h e = inl refl
   other_words (endings.Refused fault) h e = absurd (none_named file h.ends.0.name h.ends.0.named e)
   other_words endings.CannotRead h e = absurd (none_some file h.ends.0 e)
   other_words endings.NotWritten h e = absurd (none_named file h.ends.0.name h.ends.0.reads.named e)
-  other_words endings.NoMemory h e = absurd (none_some file h.ends.0 e)
+  other_words endings.NoMemory h e = inr refl
 
   pub refused : (e : Ending) → Ended e told file before now c → status_number e ≡ 3 → (fault : SourceFault) × Refuses told file fault
   refused (endings.Reported answer) h e = absurd (not_reported answer 3 h.ends.0 (omega arith) e)
@@ -186,7 +181,7 @@ module _ {told : Option Files} {file : Option (List ℕ)} {before now : Option (
   all_written (endings.Refused fault) h seven = h.ends.2
   all_written endings.CannotRead h seven = h.ends.2
   all_written endings.NotWritten h seven = absurd (seven refl)
-  all_written endings.NoMemory h seven = h.ends.1
+  all_written endings.NoMemory h seven = h.ends.0
 
   pub untouched : (e : Ending) → Ended e told file before now c → status_number e ≢ 0 → status_number e ≢ 1 → status_number e ≢ 7 → now ≡ before
   untouched (endings.Reported answer) h zero one seven = absurd (elim (small answer h.ends.0) [ inl z ↦ zero z | inr z ↦ one z ])
@@ -194,7 +189,7 @@ module _ {told : Option Files} {file : Option (List ℕ)} {before now : Option (
   untouched (endings.Refused fault) h zero one seven = h.ends.3
   untouched endings.CannotRead h zero one seven = h.ends.3
   untouched endings.NotWritten h zero one seven = absurd (seven refl)
-  untouched endings.NoMemory h zero one seven = h.ends.2
+  untouched endings.NoMemory h zero one seven = h.ends.1
 
   pub refuses : (e : Ending) → Ended e told file before now c → MustRefuse told file → (status_number e ≡ 3) ⊎ ((status_number e ≡ 4) ⊎ (status_number e ≡ 8))
   refuses (endings.Reported answer) h m = absurd (bad_reads m h.ends.0.name h.ends.0.program h.ends.0.reads)
@@ -225,7 +220,7 @@ module _ {told : Option Files} {file : Option (List ℕ)} {before now : Option (
   }
   complains Told endings.Usage h t = record {
     nothing = λ z. absurd (only 2 (omega arith) z);
-    usage = λ z. told_usage Told file t;
+    usage = λ z. t;
     refusal = λ z. absurd (omega arith);
     unread = λ z. absurd (omega arith);
     unwritten = λ z. absurd (omega arith);
@@ -261,5 +256,5 @@ module _ {told : Option Files} {file : Option (List ℕ)} {before now : Option (
     refusal = λ z. absurd (omega arith);
     unread = λ z. absurd (omega arith);
     unwritten = λ z. absurd (omega arith);
-    memory = λ z. (let n = name_in file h.ends.0 in told_by Told endings.NoMemory n.0 n.1 t);
+    memory = λ z. t;
   }

@@ -1,5 +1,5 @@
 -- The colours are true of every run.
-use Rattle.std.proofs.Common.{◌≡◌, ◌≢◌, ◌⊎◌, ℕ, zero, suc, ◌+◌, ◌*◌, ◌<◌, ◌≤◌, Bool, true, false, ◌&&◌, cond, ltb, leb, List, [], ◌∷◌, ◌++◌, map, Option, Some, None, refl, sym, ap, ◌∙◌, subst, inl, inr, arith, add-zero, zero-add}
+use Rattle.std.proofs.Common.{◌≡◌, ◌≢◌, ℕ, zero, suc, ◌+◌, ◌*◌, ◌<◌, true, false, ltb, leb, List, [], ◌∷◌, ◌++◌, map, Option, Some, None, refl, sym, ap, ◌∙◌, subst, inl, inr, arith, add-zero, zero-add}
 use Rattle.std.specs.Prelude.{slice_get, ℤ, pos}
 use Rattle.std.specs.Option.{option_map, option_map_or}
 use Rattle.std.specs.List.{AllByRecursion}
@@ -13,7 +13,7 @@ use Rattle.c_front.specs.declared.program.Array.{Array}
 use Rattle.c_front.specs.declared.program.Store.{Store}
 use Rattle.c_front.specs.declared.program.Program.{Program}
 use Rattle.c_front.specs.Objects.{Shape, Int, ArrayOf, size_of, Leaf, Value, Number, Pointer, Object, State, region_length, with_leaf, with_written, zeros, start}
-use Rattle.c_front.specs.Runs.{Visit, IsInside, is_inside, End, Finished, Spent, Outside, Undefined, BadPointer, NoLeaf, Left, Goes, Ends, Part, goes, ends, after, next, then_do, dereference, written, put_objects, write, element, store, stores, calls, Run, end_of, run_of, run}
+use Rattle.c_front.specs.Runs.{Visit, IsInside, End, Finished, Outside, Left, Goes, Ends, Part, goes, after, next, then_do, dereference, written, put_objects, write, element, store, stores, calls, end_of, run}
 use Rattle.report.specs.declared.line.Line.{Line}
 use Rattle.survey.specs.Colours as c
 use Rattle.survey.specs.Colours.{size_at, line_of, lines_from, lines_of}

@@ -1,6 +1,5 @@
 -- How a call ends inside, before its status is told.
-use Rattle.std.specs.Prelude.{◌≡◌, ◌⊎◌, ℕ, ◌≤◌, List, [], ◌∷◌, length, take, Option, Some, None, IsSome}
-use Rattle.sv_base.specs.declared.fault.SourceFault.{SourceFault}
+use Rattle.std.specs.Prelude.{◌≡◌, ◌⊎◌, ℕ, ◌≤◌, List, [], ◌∷◌, length, take, Option, None, unwrap_or, IsSome}
 use Rattle.sv_outside.specs.Outside.{Files, Rose, with_more}
 use Rattle.c_front.specs.declared.program.Program.{Program}
 use Rattle.c_front.specs.Form.{IsForm}
@@ -36,7 +35,7 @@ EndsAs (endings.Reported answer) told file before now c = Reports told file befo
 EndsAs endings.NotWritten told file before now c = CutsOff told file before now × (c.loads_now ≡ c.loads_before) × Rose c.puts_before c.puts_now
 EndsAs (endings.Refused fault) told file before now c = Refuses told file fault × (c.loads_now ≡ c.loads_before) × (c.puts_now ≡ c.puts_before) × (now ≡ before)
 EndsAs endings.CannotRead told file before now c = IsSome file × Rose c.loads_before c.loads_now × (c.puts_now ≡ c.puts_before) × (now ≡ before)
-EndsAs endings.NoMemory told file before now c = IsSome file × (c.puts_now ≡ c.puts_before) × (now ≡ before)
+EndsAs endings.NoMemory told file before now c = (c.puts_now ≡ c.puts_before) × (now ≡ before)
 EndsAs endings.Usage told file before now c = (file ≡ None) × (c.loads_now ≡ c.loads_before) × (c.puts_now ≡ c.puts_before) × (now ≡ before)
 
 -- the same as a record, from which its parts are found
@@ -54,8 +53,7 @@ complaint_text name endings.NoMemory = no_memory_text
 
 -- the text of the ending was told, under the name that the words give
 abbrev pub ToldAs : Option (List ℕ) → Ending → (List ℕ → Type 0) → Type 0
-ToldAs None e Told = Told usage_text
-ToldAs (Some name) e Told = Told (complaint_text name e)
+ToldAs file e Told = Told (complaint_text (unwrap_or file []) e)
 
 -- a refusal names a fault of the one file
 abbrev pub IsTellable : Ending → Type 0

@@ -97,10 +97,10 @@ pub record Gives (name : List ℕ) (program : Program) (before now : Option (Lis
   pub answers : answer ≡ status name program
   pub gained : now ≡ with_more before (report name program)
 
--- the one load of an accepted command was counted, and no other
-abbrev pub Loads : Option (List ℕ) → ℕ → ℕ → Type 0
-Loads None before now = now ≡ before
-Loads (Some name) before now = now ≡ counted before
+-- the one load of an accepted command was counted, and no other; memory may run out before it
+abbrev pub Loads : Option (List ℕ) → ℕ → ℕ → ℕ → Type 0
+Loads None answer before now = now ≡ before
+Loads (Some name) answer before now = (now ≡ counted before) ⊎ ((answer ≡ 8) × (now ≡ before))
 
 -- a call answers one of these
 abbrev pub IsStatus : ℕ → Type 0

@@ -83,6 +83,41 @@ fn files_of_the_form_and_others(rt: HostRuntime) -> Result<(), Fail> {
 }
 
 #[test]
+fn words_of_what_is_built_and_others(rt: HostRuntime) -> Result<(), Fail> {
+    let alloc = rt.alloc();
+    let usage = "usage: surveyor check|alone|trial\n";
+    let rows = [
+        ("surveyor alone --entry main --rounds=24 t.c", 0, ""),
+        ("surveyor alone -- t.c", 0, ""),
+        ("surveyor", 2, usage),
+        ("surveyor alone", 2, usage),
+        ("surveyor alone -x t.c", 2, usage),
+        ("surveyor alone t.c u.c", 2, usage),
+        ("surveyor alone --entry tick t.c", 2, usage),
+        ("surveyor alone --rounds 201 t.c", 2, usage),
+        ("surveyor alone --db base t.c", 2, usage),
+        ("surveyor alone --book book t.c", 2, usage),
+        ("surveyor check t.c", 2, usage),
+        ("surveyor trial 1 2", 2, usage),
+        ("surveyor run t.c", 2, usage),
+        ("surveyor audit --db base t.c", 2, usage),
+    ];
+    for (line, status, complaint) in rows {
+        let mut sources = SureSources::new(files(alloc, GREEN)?);
+        let mut out = SureSink::new(alloc);
+        let mut err = SureSink::new(alloc);
+        let mut words = Vec::new(alloc);
+        for word in line.split(' ') {
+            words.push(String::from_str(alloc, word)?)?;
+        }
+        let answer = survey_alone(alloc, &words, &mut sources, &mut out, &mut err);
+        assert_eq!(rt; answer, status, "with {line}");
+        assert_eq!(rt; err.taken(), complaint.as_bytes(), "with {line}");
+    }
+    Ok(())
+}
+
+#[test]
 fn failing_load_put_and_words(rt: HostRuntime) -> Result<(), Fail> {
     let alloc = rt.alloc();
     let rows = [

@@ -4,12 +4,13 @@ ghost use Rattle.sv_base.specs.declared.fault.SourceFault.{SourceFault as Fault}
 ghost use Rattle.sv_outside.specs.Outside.{Rose, counted};
 ghost use Rattle.survey.specs.Words.{texts, accepted_file};
 ghost use Rattle.survey.specs.Outcome.{IsStatus, IsReported, Reports, ReportsSound, Refuses, MustRefuse, CutsOff, Accepts, Gives, Loads, Tells, Complains};
-ghost use Rattle.survey.specs.Endings.{Counts, Ended, ToldAs};
+ghost use Rattle.survey.specs.Endings.{Counts, Ended, ToldAs, status_number};
 
 use crate::check::check;
 use crate::ending::{Ending, status_number};
 use crate::telling::{put_text, tell};
 use crate::words::accepted_file;
+use cli_words::WordsFault;
 use std::alloc::Global;
 use sv_base::{FaultKind, FileId, Place, SourceFault};
 use sv_outside::{Loaded, Sink, Sources};
@@ -55,15 +56,22 @@ fn survey_words<S: Sources, K: Sink>(
 ) -> Ending
     ensures ends { Ended result (S.files sources.old) (accepted_file (texts words.now)) (K.taken out.old) (K.taken out.new)
         (record { loads_before = S.faults sources.old; loads_now = S.faults sources.new; puts_before = K.faults out.old; puts_now = K.faults out.new }) }
-    ensures loads { Loads (accepted_file (texts words.now)) (S.calls sources.old) (S.calls sources.new) }
+    ensures loads { Loads (accepted_file (texts words.now)) (status_number result) (S.calls sources.old) (S.calls sources.new) }
     ensures told { ToldAs (accepted_file (texts words.now)) result
         (Tells (K.taken err.old) (K.taken err.new) (K.faults err.old) (K.faults err.new) (K.refusals err.old) (K.refusals err.new)) }
 {
-    let Some(name) = accepted_file(words) else {
-        put_text(err, b"usage: surveyor check|alone|trial\n");
-        return Ending::Usage;
+    let name = match accepted_file(alloc, words) {
+        Ok(name) => name,
+        Err(WordsFault::Bad) => {
+            put_text(err, b"usage: surveyor check|alone|trial\n");
+            return Ending::Usage;
+        }
+        Err(WordsFault::NoMemory) => {
+            put_text(err, b"surveyor: no memory\n");
+            return Ending::NoMemory;
+        }
     };
-    let ending = survey_file(alloc, name, sources, out);
+    let ending = survey_file(alloc, name.as_str(), sources, out);
     let ending = tell(alloc, name.as_bytes(), ending, err);
     return ending;
 }
@@ -87,9 +95,9 @@ pub fn survey_alone<S: Sources, K: Sink>(
     ensures sound { IsReported result →
         ReportsSound (S.files sources.old) (accepted_file (texts words.now)) (K.taken out.old) (K.taken out.new) }
 
-    // Status 2 comes exactly where the words are not accepted.
+    // Status 2 comes exactly where the words are not accepted or ask for what is not built, unless memory runs out.
     ensures usage { result ≡ 2 → accepted_file (texts words.now) ≡ None }
-    ensures other_words { accepted_file (texts words.now) ≡ None → result ≡ 2 }
+    ensures other_words { accepted_file (texts words.now) ≡ None → (result ≡ 2) ⊎ (result ≡ 8) }
 
     // Status 3 comes exactly where the file is too large or not of the form, unless it cannot be read or memory runs out.
     ensures refused { result ≡ 3 →
@@ -112,7 +120,7 @@ pub fn survey_alone<S: Sources, K: Sink>(
     ensures told { Complains (S.files sources.old) (accepted_file (texts words.now)) result
         (Tells (K.taken err.old) (K.taken err.new) (K.faults err.old) (K.faults err.new) (K.refusals err.old) (K.refusals err.new)) }
 
-    ensures loads { Loads (accepted_file (texts words.now)) (S.calls sources.old) (S.calls sources.new) }
+    ensures loads { Loads (accepted_file (texts words.now)) result (S.calls sources.old) (S.calls sources.new) }
 
     // A file of the form is reported, unless a load or a put has failed or memory ran out.
     ensures complete { (name : List ℕ) (program : Checked) →

@@ -1,4 +1,3 @@
-use Rattle.std.proofs.Common.{◌≡◌}
 use Rattle.survey.proofs.Rows.{statuses, reports, reports_sound, usage, other_words, refused, refuses, unread, unwritten, all_read, all_written, untouched, complete, complains}
 use Rattle.survey.proofs.top.survey_alone.Goals as goal
 

@@ -4,11 +4,8 @@ use Rattle.sv_base.specs.declared.fault.SourceFault.{SourceFault}
 use Rattle.sv_base.specs.declared.place.Place.{Place}
 use Rattle.sv_base.specs.declared.fault.FaultKind.TheVariants.{Limit}
 use Rattle.sv_outside.specs.Outside.{LoadsFrom}
-use Rattle.sv_outside.specs.declared.sources.Loaded.{Loaded}
 use Rattle.sv_outside.specs.declared.sources.Loaded.TheVariants as loaded
 use Rattle.survey.specs.Outcome.{too_large, Refuses}
-use Rattle.survey.specs.Endings.{Counts, Ended}
-use Rattle.survey.specs.declared.ending.Ending.TheVariants as endings
 use Rattle.survey.proofs.Loading.{stands_from_ok, refuses_large, ends_after_ok}
 use Rattle.survey.proofs.top.survey_file.Goals as goal
 
