@@ -52,6 +52,17 @@ assigned_same v z w k q = elim (eqb_tells k v) [ inl e ↦ rw e.0 | inr e ↦ ab
 pub assigned_other : (v : ℕ) (z : ℤ) (w : ℕ → ℤ) (k : ℕ) → k ≢ v → assigned v z w k ≡ w k
 assigned_other v z w k q = elim (eqb_tells k v) [ inl e ↦ absurd (q e.1) | inr e ↦ rw e.0 ]
 
+-- bounds apart from v stay
+pub stays_apart : (n v : ℕ) (f : ℕ → ℕ → Option ℤ → Option ℤ) (d e : Weights) → ((i j : ℕ) → i ≤ n → j ≤ n → e i j ≡ around v f d i j)
+    → (i j : ℕ) → i ≤ n → j ≤ n → i ≢ v → j ≢ v → e i j ≡ d i j
+stays_apart n v f d e each i j ii jj a b = by_place (place v i j f d)
+  where
+    by_place : Place v i j f d → e i j ≡ d i j
+    by_place (diagonal h p) = each i j ii jj ∙ p
+    by_place (from m h p) = absurd (a h)
+    by_place (to m k h p) = absurd (b h)
+    by_place (apart m k h p) = each i j ii jj ∙ p
+
 -- forgetting
 module _ (n v : ℕ) (d e : Weights) (each : (i j : ℕ) → i ≤ n → j ≤ n → e i j ≡ forgotten v d i j) where
   -- a bound that stands stood, on the diagonal or apart from v
@@ -65,13 +76,7 @@ module _ (n v : ℕ) (d e : Weights) (each : (i j : ℕ) → i ≤ n → j ≤ n
       by_place (apart m k h p) = (sym p ∙ (sym (each i j ii jj) ∙ q), inr (k, h))
 
   stays : (i j : ℕ) → i ≤ n → j ≤ n → i ≢ v → j ≢ v → e i j ≡ d i j
-  stays i j ii jj a b = by_place (place v i j (λ r s o. None) d)
-    where
-      by_place : Place v i j (λ r s o. None) d → e i j ≡ d i j
-      by_place (diagonal h p) = each i j ii jj ∙ p
-      by_place (from m h p) = absurd (a h)
-      by_place (to m k h p) = absurd (b h)
-      by_place (apart m k h p) = each i j ii jj ∙ p
+  stays = stays_apart n v (λ r s o. None) d e each
 
   diagonal_stays : (i : ℕ) → i ≤ n → e i i ≡ d i i
   diagonal_stays i ii = elim (eqb_tells i i) [ inl q ↦ each i i ii ii ∙ (rw q.0) | inr q ↦ absurd (q.1 refl) ]

@@ -7,6 +7,7 @@ mod Written
 mod Examples
 pub mod Merging
 pub mod Assigning
+pub mod Choosing
 pub mod Solving
 pub mod Relaxing
 pub mod Magnitudes

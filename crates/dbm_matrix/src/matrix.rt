@@ -161,6 +161,7 @@ impl Matrix {
         ensures closed { IsClosed self.new.size (bound self.new) }
         ensures within { (b : ℕ) → IsWithin b self.old.size (bound self.old) → IsWithin b self.new.size (bound self.new) }
         ensures solutions { (w : ℕ → ℤ) (z : ℤ) → Solves self.old.size (bound self.old) w → Solves self.new.size (bound self.new) (assigned v z w) }
+        ensures no_more { (w : ℕ → ℤ) → Solves self.new.size (bound self.new) w → (z : ℤ) × Solves self.old.size (bound self.old) (assigned v z w) }
     {
         revise_around(
             &mut self.cells,
@@ -212,6 +213,7 @@ impl Matrix {
         ensures within { (b : ℕ) → unsigned_abs c ≤ b → IsWithin b self.old.size (bound self.old) → IsWithin b self.new.size (bound self.new) }
         ensures solutions { (w : ℕ → ℤ) → Solves self.old.size (bound self.old) w → Solves self.new.size (bound self.new) (assigned to (w from +ℤ c) w) }
         ensures equal { (w : ℕ → ℤ) → Solves self.new.size (bound self.new) w → w to ≡ w from +ℤ c }
+        ensures no_more { (w : ℕ → ℤ) → Solves self.new.size (bound self.new) w → (z : ℤ) × Solves self.old.size (bound self.old) (assigned to z w) }
     {
         revise_around(
             &mut self.cells,

@@ -2,7 +2,8 @@ use Rattle.std.proofs.Common.{◌≡◌, ℕ, ◌≤◌, None, arith, ap, sym, s
 use Rattle.dbm_matrix.specs.Bounds.{Bounds, at, bound}
 use Rattle.dbm_matrix.specs.Changes.{forgotten}
 use Rattle.dbm_matrix.specs.Paths.{IsClosed}
-use Rattle.dbm_matrix.proofs.Assigning.{all_around, forget_closed, forget_within, forget_solves}
+use Rattle.dbm_matrix.proofs.Assigning.{all_around, stays_apart, forget_closed, forget_within, forget_solves}
+use Rattle.dbm_matrix.proofs.Choosing.{solved}
 use Rattle.dbm_matrix.proofs.matrix.Matrix.forget.Goals as goal
 use Rattle.dbm_matrix.proofs.matrix.Matrix.forget.Goals.{After-revise_around}
 
@@ -29,3 +30,12 @@ returns-clause-within c = rw (← c.self.view_is)
 pub returns-clause-solutions : goal.returns-clause-solutions
 returns-clause-solutions c = rw (← c.self.view_is)
     (forget_solves c.self.inside.size c.args.v (at c.self.inside.cells) (at c.revise_around.new.cells) (each (goal.at.returns-clause-solutions c).After-revise_around) c.requires.place.0)
+
+pub returns-clause-no_more : goal.returns-clause-no_more
+returns-clause-no_more c =
+    let r = (goal.at.returns-clause-no_more c).After-revise_around in
+    let d = at c.self.inside.cells in
+    let e = at c.revise_around.new.cells in
+    let closed = subst (λ (m : Bounds). IsClosed m.size (bound m)) (sym c.self.view_is) c.requires.closed in
+    rw (← c.self.view_is)
+    (λ w s. solved c.self.inside.size c.args.v d e (omega (arith, size r)) closed (stays_apart c.self.inside.size c.args.v (λ i j o. None) d e (each r)) w s c.requires.place.0)
