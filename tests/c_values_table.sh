@@ -115,10 +115,16 @@ echo '// unary operators'
 unary Neg Int MIN32; unary Neg Int 2147483647; unary Neg UInt 1; unary Neg UInt 0; unary Neg LongLong MIN64
 unary Not Int 0; unary Not Int MIN32; unary Not UInt 1; unary Not ULongLong 0
 
-# Every operator over every pair of boundary values of each type that operands have after the promotions (6.3.1.1); the right
-# operand of a shift is a count about zero and about the width.
+# Every operator over the boundary values of each type. Operands have a type of a rank below int only before the promotions
+# (6.3.1.1), so there the compiler computes in 64 bits, and its checked addition says whether the result is one of the
+# type's. The right operands of a shift are counts about zero and about the width as well.
 boundaries() {
     case $1 in
+        Bool) echo '0 1' ;;
+        Char | SChar) echo '-128 -127 -1 0 1 126 127' ;;
+        UChar) echo '0 1 254 255' ;;
+        Short) echo '-32768 -32767 -1 0 1 32766 32767' ;;
+        UShort) echo '0 1 65534 65535' ;;
         Int | Long) echo '-2147483648 -2147483647 -1 0 1 2147483646 2147483647' ;;
         UInt | ULong) echo '0 1 4294967294 4294967295' ;;
         LongLong) echo '-9223372036854775808 -9223372036854775807 -1 0 1 9223372036854775806 9223372036854775807' ;;
@@ -128,22 +134,65 @@ boundaries() {
 
 counts() {
     case $1 in
-        LongLong | ULongLong) echo '-1 0 1 62 63 64' ;;
-        *) echo '-1 0 1 30 31 32' ;;
+        Bool) echo '-1 0 1 2' ;;
+        Char | SChar) echo '-128 -127 -1 0 1 6 7 8 126 127' ;;
+        UChar) echo '-1 0 1 6 7 8 254 255' ;;
+        Short) echo '-32768 -32767 -1 0 1 14 15 16 32766 32767' ;;
+        UShort) echo '-1 0 1 14 15 16 65534 65535' ;;
+        Int | Long) echo '-2147483648 -2147483647 -1 0 1 30 31 32 2147483646 2147483647' ;;
+        UInt | ULong) echo '-1 0 1 30 31 32 4294967294 4294967295' ;;
+        LongLong)
+            echo '-9223372036854775808 -9223372036854775807 -1 0 1 62 63 64 9223372036854775806 9223372036854775807'
+            ;;
+        ULongLong) echo '-1 0 1 62 63 64 18446744073709551614 18446744073709551615' ;;
     esac
 }
 
-compile() { # a program that reads its operands from its words
-    cat > "$folder/pair.c" <<END
+is_narrow() {
+    case $1 in Bool | Char | SChar | UChar | Short | UShort) true ;; *) false ;; esac
+}
+
+width() {
+    case $1 in Bool) echo 1 ;; Char | SChar | UChar) echo 8 ;; Short | UShort) echo 16 ;; esac
+}
+
+body() { # what computes r of type $2 from the operands, for the operator $1, as the C expression $3
+    if ! is_narrow "$2"; then
+        echo "    ${type_of[$2]} r = $3;"
+        return
+    fi
+    case $1 in
+        Shl | Shr) echo "    if (b < 0 || b >= $(width "$2")) { printf(\"count\"); return 0; }" ;;
+        Rem) echo "    FIT(a / b, \"overflow\")" ;;
+    esac
+    case $1 in Shl) echo "    FIT($3, \"value\")" ;; *) echo "    FIT($3, \"overflow\")" ;; esac
+    echo "    int64_t r = fit;"
+}
+
+compile() { # a program that computes $3 for the operator $1 of type $2 from its words
+    local left=${type_of[$2]} right=${type_of[$2]} fit
+    if is_narrow "$2"; then left=int64_t right=int64_t; fi
+    case $1 in Shl | Shr) right=__int128 ;; esac
+    case $2 in
+        Bool) fit='struct { unsigned one : 1; } bit; bit.one = (x); fit = bit.one;' ;;
+        UChar | UShort) fit="${type_of[$2]} part; (void)__builtin_add_overflow((x), 0, \\&part); fit = part;" ;;
+        *) fit="${type_of[$2]} part; if (__builtin_add_overflow((x), 0, \\&part)) { printf(why); return 0; } fit = part;" ;;
+    esac
+    sed "s/@FIT@/$fit/" > "$folder/pair.c" <<END
 #include <stdint.h>
 #include <stdio.h>
 #include <stdlib.h>
-static $1 left(const char *text) { return ($1)(text[0] == '-' ? strtoll(text, 0, 10) : strtoull(text, 0, 10)); }
-static $2 right(const char *text) { return ($2)(text[0] == '-' ? strtoll(text, 0, 10) : strtoull(text, 0, 10)); }
+#define FIT(x, why) { @FIT@ }
+static $left left(const char *text) { return ($left)(text[0] == '-' ? strtoll(text, 0, 10) : strtoull(text, 0, 10)); }
+static $right right(const char *text) {
+    if (text[0] == '-') return ($right)strtoll(text, 0, 10);
+    return ($right)strtoull(text, 0, 10);
+}
 int main(int count, char **words) {
-    volatile $1 a = left(words[1]);
-    volatile $2 b = right(words[2]);
-    $1 r = $3;
+    volatile $left a = left(words[1]);
+    volatile $right b = right(words[2]);
+    int64_t fit;
+$(body "$1" "$2" "$3")
     if (r < 0) printf("%lld", (long long)r); else printf("%llu", (unsigned long long)r);
     return 0;
 }
@@ -166,11 +215,10 @@ answer() { # what the program gives for two operands: the value, or a word for i
 
 echo '// every operator, type and left operand: the answers for all right operands'
 for op in Add Sub Mul Div Rem Shl Shr And Or Xor; do
-    for type in Int UInt Long ULong LongLong ULongLong; do
-        right=${type_of[$type]}
+    for type in $types; do
         rights=$(boundaries $type)
-        case $op in Shl | Shr) right=int64_t rights=$(counts $type) ;; esac
-        compile "${type_of[$type]}" "$right" "a ${sign_of[$op]} b"
+        case $op in Shl | Shr) rights=$(counts $type) ;; esac
+        compile $op $type "a ${sign_of[$op]} b"
         for a in $(boundaries $type); do
             printf '%s %s %s:' $op $type "$a"
             for b in $rights; do
@@ -179,5 +227,18 @@ for op in Add Sub Mul Div Rem Shl Shr And Or Xor; do
             done
             echo
         done
+    done
+done
+
+echo '// every operator of one operand and type: the answers for all operands'
+for op in Neg Not; do
+    for type in $types; do
+        compile $op $type "${sign_of[$op]}a"
+        printf '%s %s:' $op $type
+        for a in $(boundaries $type); do
+            printf ' '
+            answer "$a" 0
+        done
+        echo
     done
 done

@@ -2,6 +2,7 @@
 use super::*;
 
 mod boundaries;
+mod rows;
 
 #[test]
 fn ranges_are_those_of_c(rt: HostRuntime) {
