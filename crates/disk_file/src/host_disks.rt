@@ -1,4 +1,5 @@
 use crate::host_disk::HostDisk;
+use crate::host_file::HostFile;
 use crate::medium::Medium;
 use std::alloc::Global;
 use std::fs::File;
@@ -75,7 +76,7 @@ impl<'a> Disks for HostDisks<'a> {
             return Ok(HostDisk::new(Medium::Memory(Vec::new(self.alloc))));
         }
         match open_file(self.rt, name) {
-            Ok(file) => Ok(HostDisk::new(Medium::File(file))),
+            Ok(file) => Ok(HostDisk::new(Medium::File(HostFile::new(self.alloc, file)))),
             Err(_) => {
                 self.faults = self.faults.saturating_add(1);
                 Err(DiskFailed)

@@ -5,6 +5,7 @@
 mod host_clock;
 mod host_disk;
 mod host_disks;
+mod host_file;
 mod host_sink;
 mod host_sources;
 mod medium;

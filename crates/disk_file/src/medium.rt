@@ -1,14 +1,13 @@
 ghost use Rattle.std.specs.Prelude.{◌≡◌, ◌≤◌, ◌+◌, length, take, drop, vec_capacity, is_ok, IsOk, OnOk, OnErr, IfOk};
 ghost use Rattle.sv_outside.specs.Disk.{Holds};
 
-use std::fs::File;
+use crate::host_file::HostFile;
 use std::io;
-use std::os::unix::fs::FileExt;
 
 /// Where the bytes of a disk stand: a file of the system, or a vector where it has no name.
 #[derive(Drop)]
 pub(crate) enum Medium {
-    File(File),
+    File(HostFile),
     Memory(Vec<u8>),
 }
 
@@ -52,18 +51,10 @@ fn write_memory(bytes: &mut Vec<u8>, at: u64, piece: &[u8]) -> io::Result<()>
     }
 }
 
-/// Makes a file no longer than that.
-fn cut_file(file: &File, to: u64) -> io::Result<()> {
-    if to < file.metadata()?.len() {
-        file.set_len(to)?;
-    }
-    Ok(())
-}
-
 impl Medium {
     pub(crate) fn length(&self) -> io::Result<u64> {
         match self {
-            Medium::File(file) => Ok(file.metadata()?.len()),
+            Medium::File(file) => file.length(),
             Medium::Memory(bytes) => Ok(bytes.len() as u64),
         }
     }
@@ -77,23 +68,23 @@ impl Medium {
         Ok(())
     }
 
-    pub(crate) fn read_at(&self, at: u64, into: &mut [u8]) -> io::Result<()> {
+    pub(crate) fn read_at(&mut self, at: u64, into: &mut [u8]) -> io::Result<()> {
         match self {
-            Medium::File(file) => file.read_exact_at(into, at),
+            Medium::File(file) => file.read_at(at, into),
             Medium::Memory(bytes) => read_memory(bytes, at, into),
         }
     }
 
     pub(crate) fn write_at(&mut self, at: u64, piece: &[u8]) -> io::Result<()> {
         match self {
-            Medium::File(file) => file.write_all_at(piece, at),
+            Medium::File(file) => file.write_at(at, piece),
             Medium::Memory(bytes) => write_memory(bytes, at, piece),
         }
     }
 
     pub(crate) fn cut(&mut self, to: u64) -> io::Result<()> {
         match self {
-            Medium::File(file) => cut_file(file, to),
+            Medium::File(file) => file.cut(to),
             Medium::Memory(bytes) => {
                 bytes.truncate(to as usize);
                 Ok(())
@@ -101,10 +92,9 @@ impl Medium {
         }
     }
 
-    /// Waits until all that was written, and the length, is on the medium.
     pub(crate) fn sync(&self) -> io::Result<()> {
         match self {
-            Medium::File(file) => file.sync_all(),
+            Medium::File(file) => file.sync(),
             Medium::Memory(_) => Ok(()),
         }
     }

@@ -8,15 +8,21 @@ const FOLDER: &str = "disk_file_test";
 
 const NAME: &str = "disk_file_test/a.db";
 
-// A disk is written, cut and read again under its name.
-fn writes_again(disk: &mut HostDisk) -> Result<[u8; 2], DiskFailed> {
+// What is read of a disk before and after a further write, which then is cut.
+fn writes_again(disk: &mut HostDisk) -> Result<[u8; 4], DiskFailed> {
+    let mut back = [0; 4];
     disk.write_at(0, b"abcd")?;
+    disk.read_at(1, &mut back[..2])?;
     disk.write_at(2, b"xyz")?;
+    disk.read_at(1, &mut back[2..])?;
     disk.cut(4)?;
     disk.sync()?;
-    let mut back = [0; 2];
-    disk.read_at(1, &mut back)?;
     Ok(back)
+}
+
+// A clock that threads share.
+fn now_of<C: Clock + Sync>(clock: &C) -> u64 {
+    clock.now()
 }
 
 #[test]
@@ -27,7 +33,7 @@ fn real_files(rt: HostRuntime) -> Result<(), Fail> {
     match disks.open(NAME) {
         Ok(mut disk) => {
             disk.reserve(8, 4, 7)?;
-            assert_eq!(rt; writes_again(&mut disk), Ok(*b"bx"));
+            assert_eq!(rt; writes_again(&mut disk), Ok(*b"bcbx"));
             assert_eq!(rt; disk.read_at(3, &mut [0; 2]), Err(DiskFailed));
         }
         Err(_) => assert!(rt; false),
@@ -58,13 +64,13 @@ fn no_name(rt: HostRuntime) -> Result<(), Fail> {
     match disks.open("") {
         Ok(mut disk) => {
             disk.reserve(8, 4, 7)?;
-            assert_eq!(rt; writes_again(&mut disk), Ok(*b"bx"));
+            assert_eq!(rt; writes_again(&mut disk), Ok(*b"bcbx"));
             assert_eq!(rt; disk.length(), Ok(4));
             assert_eq!(rt; disk.write_at(5, b"e"), Err(DiskFailed));
         }
         Err(_) => assert!(rt; false),
     }
     let clock = HostClock::new(&rt);
-    assert!(rt; clock.now() < 60_000);
+    assert!(rt; now_of(&clock) < 60_000);
     Ok(())
 }
