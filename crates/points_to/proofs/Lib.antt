@@ -1,0 +1,6 @@
+pub mod Logic
+pub mod Words
+pub mod Ascending
+pub mod Members
+pub mod Merging
+pub mod Views

@@ -1,0 +1,11 @@
+//! Inclusion-based points-to sets.
+//! Lars Ole Andersen, "Program Analysis and Specialization for the C Programming Language", 1994.
+#![tactic(auto)]
+
+mod bits;
+mod block;
+mod blocks;
+#[cfg(test)]
+mod tests;
+
+pub use bits::Bits;
