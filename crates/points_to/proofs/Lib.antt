@@ -4,3 +4,5 @@ pub mod Ascending
 pub mod Members
 pub mod Merging
 pub mod Views
+pub mod Each
+pub mod Meeting

@@ -1,6 +1,5 @@
 -- Truth values.
-use Rattle.std.proofs.Common.{◌≡◌, ℕ, ◌<◌, ◌==◌, Bool, true, false, not, ◌&&◌, ◌||◌, refl, max, suc, zero, arith}
-use Rattle.std.proofs.lemmas.Bool.Decides.{nat_tests}
+use Rattle.std.proofs.Common.{◌≡◌, Bool, true, false, ◌&&◌, ◌||◌, refl}
 use Rattle.std.proofs.lemmas.Bool.{true≢false}
 
 pub and_or : (p x y : Bool) → (p && (x || y)) ≡ ((p && x) || (p && y))

@@ -1,15 +1,15 @@
 -- Blocks as the lists of their numbers.
-use Rattle.std.proofs.Common.{◌≡◌, ℕ, zero, suc, ◌+◌, ◌-◌, ◌*◌, ◌/◌, ◌%◌, ◌^◌, ◌<◌, ◌≤◌, ◌==◌, Bool, true, false, cond, not, ◌&&◌, ◌||◌, List, [], ◌∷◌, ◌++◌, map, length, get_or, set, take, drop, refl, sym, ap, ◌∙◌, inl, inr, eqb-true, eq-eqb, ne_eqb, arith}
-use Rattle.std.specs.List.{filter, flat_map, list_any, range_with_len, insert}
+use Rattle.std.proofs.Common.{◌≡◌, ℕ, zero, suc, ◌+◌, ◌*◌, ◌/◌, ◌%◌, ◌<◌, ◌≤◌, ◌==◌, Bool, true, false, cond, ◌&&◌, ◌||◌, List, [], ◌∷◌, ◌++◌, length, get_or, refl, sym, ap, ◌∙◌, inl, inr, eq-eqb, ne_eqb, arith}
+use Rattle.std.specs.List.{filter, range_with_len}
 use Rattle.std.specs.Int.{bit_at}
-use Rattle.std.proofs.lemmas.Bool.{cases_eq, cases_lt, or_cases, or_right, or_left, and_parts, and_from, true≢false, false_from_ne_true}
+use Rattle.std.proofs.lemmas.Bool.{cases_eq, cases_lt, or_cases, or_right, or_left, true≢false}
 use Rattle.std.proofs.lemmas.List.FromFn.{filter_of_map_range_with_len_more}
-use Rattle.std.proofs.lemmas.List.{append-nil, append_assoc, map-id, get_or_default, length-map, get_or-map, map-append, map-set, set-get_or}
+use Rattle.std.proofs.lemmas.List.{append-nil, append_assoc, map-id, get_or_default, length-map, get_or-map}
 use Rattle.points_to.specs.declared.block.Block.{Block}
 use Rattle.points_to.specs.Sets.{has, AllFrom, AllBelow, IsAscending}
-use Rattle.points_to.specs.Blocks.{block_members, members, block_has, blocks_have, indexes, AreBlocks}
-use Rattle.points_to.proofs.Logic.{and_false, or_assoc, or_false, same_truth}
-use Rattle.points_to.proofs.Ascending.{from_weaker, from_lacks, from_has, at_below, at_from, ordered_at, ascending_append, from_append, below_append, below_weaker, ascending_insert, below_insert}
+use Rattle.points_to.specs.Blocks.{block_members, members, block_has, blocks_have, indexes}
+use Rattle.points_to.proofs.Logic.{and_false, or_assoc, or_false}
+use Rattle.points_to.proofs.Ascending.{from_weaker, from_lacks, at_from, ordered_at, ascending_append, from_append, below_append}
 
 -- ---- ranges and filters
 

@@ -1,10 +1,10 @@
 -- Sets as their blocks.
-use Rattle.std.proofs.Common.{◌≡◌, ℕ, zero, suc, ◌+◌, ◌*◌, ◌^◌, ◌<◌, ◌≤◌, ◌==◌, ◌↔◌, Bool, true, false, not, ◌&&◌, ◌||◌, IsTrue, List, [], ◌∷◌, length, refl, sym, ap, ◌∙◌, subst, eq-eqb, ne_eqb, arith}
-use Rattle.std.proofs.lemmas.Bool.{or_left, or_right, or_parts, true≢false, eqb-false}
+use Rattle.std.proofs.Common.{◌≡◌, ℕ, suc, ◌^◌, ◌<◌, ◌==◌, Bool, true, false, ◌||◌, List, [], ◌∷◌, length, refl, sym, ap, ◌∙◌, subst, eq-eqb, ne_eqb, arith}
+use Rattle.std.proofs.lemmas.Bool.{or_left, or_right, true≢false}
 use Rattle.points_to.specs.declared.block.Block.{Block}
 use Rattle.points_to.specs.Sets.{has, IsSet}
-use Rattle.points_to.specs.Blocks.{block_has, blocks_have, members, AreBlocks}
-use Rattle.points_to.proofs.Ascending.{longer, same_ascending}
+use Rattle.points_to.specs.Blocks.{blocks_have, members, AreBlocks}
+use Rattle.points_to.proofs.Ascending.{longer}
 use Rattle.points_to.proofs.Members.{members_have, members_below, members_ascending}
 
 pub set_of : (blocks : List Block) → AreBlocks blocks → IsSet (members blocks)

@@ -1,5 +1,5 @@
 -- Sets of numbers as blocks of 64 neighbours, in ascending order: number n is bit n % 64 of the block with index n / 64.
-use Rattle.std.specs.Prelude.{◌≡◌, ℕ, ◌+◌, ◌*◌, ◌/◌, ◌%◌, ◌^◌, ◌≤◌, ◌==◌, ◌&&◌, ◌||◌, ◌++◌, Bool, List, map, length, drop}
+use Rattle.std.specs.Prelude.{◌≡◌, ℕ, ◌*◌, ◌/◌, ◌%◌, ◌^◌, ◌≤◌, ◌==◌, ◌&&◌, ◌||◌, ◌++◌, Bool, List, map, length, drop}
 use Rattle.std.specs.List.{filter, flat_map, list_any, range_with_len}
 use Rattle.std.specs.Int.{bit_at}
 use Rattle.points_to.specs.declared.block.Block.{Block}

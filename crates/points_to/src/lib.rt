@@ -5,7 +5,12 @@
 mod bits;
 mod block;
 mod blocks;
+mod closure;
+mod rule;
+mod table;
 #[cfg(test)]
 mod tests;
 
 pub use bits::Bits;
+pub use closure::closed;
+pub use rule::Rule;

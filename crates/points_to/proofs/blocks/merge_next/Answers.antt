@@ -1,4 +1,4 @@
-use Rattle.std.proofs.Common.{◌≡◌, ◌<◌, ◌∙◌, sym, arith}
+use Rattle.std.proofs.Common.{arith}
 use Rattle.points_to.specs.declared.block.Block.{Block}
 use Rattle.points_to.proofs.Merging.{merged_left, merged_right, merged_both}
 use Rattle.points_to.proofs.blocks.merge_next.Goals as goal

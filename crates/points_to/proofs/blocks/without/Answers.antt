@@ -1,4 +1,4 @@
-use Rattle.std.proofs.Common.{◌≡◌, ℕ, ◌+◌, ◌∙◌, sym, ap, get_or, take, drop, not, arith}
+use Rattle.std.proofs.Common.{◌∙◌, sym}
 use Rattle.points_to.specs.declared.block.Block.{Block}
 use Rattle.points_to.specs.Blocks.{blocks_have}
 use Rattle.points_to.proofs.Words.{empty_has}

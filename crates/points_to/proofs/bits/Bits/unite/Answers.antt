@@ -1,4 +1,4 @@
-use Rattle.std.proofs.Common.{◌≡◌, ℕ, ◌||◌, ◌∙◌, sym, ap, refl}
+use Rattle.std.proofs.Common.{◌||◌, ◌∙◌, sym, ap, refl}
 use Rattle.points_to.specs.Sets.{has}
 use Rattle.points_to.specs.Blocks.{blocks_have}
 use Rattle.points_to.proofs.Views.{has_at, set_at, set_of, kept, added_at, grew_at}

@@ -1,4 +1,4 @@
-use Rattle.std.proofs.Common.{◌≡◌, ℕ, ◌&&◌, not, ◌∙◌, sym, ap, refl}
+use Rattle.std.proofs.Common.{◌&&◌, not, ◌∙◌, sym, ap}
 use Rattle.points_to.specs.Sets.{has}
 use Rattle.points_to.specs.Blocks.{blocks_have}
 use Rattle.points_to.proofs.Views.{has_at, set_of}
