@@ -1,0 +1,19 @@
+//! The core program, on which the analysis works, and the types of the analysis: what a task reads, and the artifact that it
+//! leaves.
+#![tactic(auto)]
+
+mod artifacts;
+mod classes;
+mod program;
+mod shapes;
+mod statics;
+mod steps;
+mod views;
+
+pub use artifacts::{Artifact, Bounds, CallPart, Constraint, Solution, Stored, WritePart};
+pub use classes::{ClassTable, FunctionNodes, LayoutPart, PartClass, RegionClass};
+pub use program::{CoreProgram, CoreSite, ExternalName, Function, Register};
+pub use shapes::{Part, Shape, ShapeForm};
+pub use statics::{StaticLeaf, StaticUnion, StaticValue};
+pub use steps::{Callee, Cond, Leaf, Operand, Step, Value};
+pub use views::{CalleePart, ClassPart, Effects, Facts, LeafPart, View};

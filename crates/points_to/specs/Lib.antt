@@ -1,0 +1,5 @@
+pub mod Sets
+pub mod Blocks
+pub mod Families
+pub mod Rules
+pub mod Tests
