@@ -1,5 +1,5 @@
 -- The keywords of C99 (ISO/IEC 9899:1999, 6.4.1).
-use Rattle.std.specs.Prelude.{ℕ, List, [], ◌∷◌, codes, Option, position}
+use Rattle.std.specs.Prelude.{ℕ, Bool, false, ◌==◌, List, [], ◌∷◌, codes, Option, position}
 use Rattle.std.specs.Str.{bytes_eq}
 
 abbrev pub keywords : List (List ℕ)
@@ -13,3 +13,8 @@ keywords =
 -- the number of a keyword is its place in the list, from 0
 abbrev pub keyword_number : List ℕ → Option ℕ
 keyword_number text = position (bytes_eq text) keywords
+
+-- the word begins with the byte
+abbrev pub begins_with : ℕ → List ℕ → Bool
+begins_with b [] = false
+begins_with b (c ∷ cs) = b == c
