@@ -1,7 +1,8 @@
 use sv_base::{Colour, SiteId};
 
-/// A demand on points-to sets. `rule` says which, from 1 to 8; `third` is 0 where the rule has no third number.
-#[derive(Clone, Copy, Debug, PartialEq, Eq)]
+/// A demand on points-to sets. `rule` says which, from 1 to 8; `third` is 0 where the rule has no third number. Constraints are
+/// ordered by these four numbers, the rule first.
+#[derive(Clone, Copy, Debug, PartialEq, Eq, PartialOrd, Ord)]
 pub struct Constraint {
     pub rule: u8,
     pub target: u32,

@@ -1,0 +1,13 @@
+pub mod Loops
+pub mod Short
+pub mod Sixteen
+pub mod Parts
+pub mod Rows
+pub mod Lists
+pub mod Past
+pub mod Clusters
+pub mod Summaries
+pub mod Whole
+pub mod Marks
+pub mod Once
+pub mod Advance

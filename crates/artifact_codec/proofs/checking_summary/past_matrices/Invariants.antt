@@ -1,0 +1,6 @@
+use Rattle.std.proofs.Common.{◌≡◌, ◌-◌}
+use Rattle.artifact_codec.specs.Checking.{past_all, bounds_past}
+use Rattle.artifact_codec.proofs.checking_summary.past_matrices.Given as goal
+
+abbrev pub invariant-loop : goal.invariant-loop
+invariant-loop l = past_all bounds_past (l.count - l.counter) l.rest ≡ past_all bounds_past l.count l.bytes
