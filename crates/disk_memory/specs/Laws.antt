@@ -37,7 +37,7 @@ written_torn r bytes at le =
     }
 
 -- one call leaves, among others, what it reads
-here_after : (op : Op) (r : List ℕ) (I : List ℕ → Type 0) → past_end r op ≡ 0 → I r → left_after r I op (read_after r op)
+pub here_after : (op : Op) (r : List ℕ) (I : List ℕ → Type 0) → past_end r op ≡ 0 → I r → left_after r I op (read_after r op)
 here_after (wrote at bytes true) r I e i = (r, i, written_torn r bytes at (omega (arith, e)))
 here_after (wrote at bytes false) r I e i = (r, i, record { before = refl; after = refl; no_shorter = omega arith; no_longer = omega arith })
 here_after (cut n true) r I e i = (r, i, record { no_shorter = omega (arith, e, length-take n r); front = ap (λ (k : ℕ). take k r) (omega (arith, e, length-take n r)) })

@@ -1,8 +1,11 @@
 pub mod Calls
 pub mod DisksViews
 pub mod Laws
+pub mod Listed
 pub mod Media
 pub mod MediumLaws
 pub mod Named
+pub mod Numbered
 pub mod OpensViews
+pub mod Replay
 pub mod Views

@@ -38,6 +38,10 @@ impl MemoryDisks {
 }
 
 impl Disks for MemoryDisks {
+    ghost use Rattle.std.specs.Prelude.{◌≡◌, ◌≢◌, ◌⊎◌, ◌≤◌, ℕ, List, [], true, false, IfOk, OnOk, OnErr};
+    ghost use Rattle.sv_outside.specs.Outside.{Rose, counted};
+    ghost use Rattle.disk_memory.specs.OpensViews.{memory_under, memory_failing_opens, memory_opens, memory_open_faults, memory_open_fails, MemoryHandsOut};
+    ghost use Rattle.disk_memory.specs.Views.{memory_faults, memory_moment, memory_seen, memory_images};
     ghost use Rattle.disk_memory.specs.DisksViews.{memory_faults_of, memory_moment_of, memory_seen_of, memory_images_of};
     ghost use Rattle.disk_memory.specs.Named.{under};
 
@@ -55,7 +59,30 @@ impl Disks for MemoryDisks {
 
     ghost may_leave_of = { λ s name. memory_images_of (under s.disks.items name) };
 
-    fn open(&mut self, name: &str) -> Result<MemoryDisk, DiskFailed> {
+    fn open(&mut self, name: &str) -> Result<MemoryDisk, DiskFailed>
+        ensures faults_of { IfOk result (λ d. memory_faults d ≡ memory_faults_of (memory_under self.old name.now)) }
+        ensures moment_of { IfOk result (λ d. memory_moment d ≡ memory_moment_of (memory_under self.old name.now)) }
+        ensures image { IfOk result (λ d. memory_seen d ≡ memory_seen_of (memory_under self.old name.now)) }
+        ensures images { IfOk result (λ d. (c : List ℕ) → (memory_images d c → memory_images_of (memory_under self.old name.now) c) × (memory_images_of (memory_under self.old name.now) c → memory_images d c)) }
+        ensures others { (other : List ℕ) → (other ≢ name.now) ⊎ (other ≡ []) →
+            (memory_faults_of (memory_under self.new other) ≡ memory_faults_of (memory_under self.old other)) × (memory_moment_of (memory_under self.new other) ≡ memory_moment_of (memory_under self.old other))
+            × (memory_seen_of (memory_under self.new other) ≡ memory_seen_of (memory_under self.old other))
+            × ((c : List ℕ) → (memory_images_of (memory_under self.new other) c → memory_images_of (memory_under self.old other) c) × (memory_images_of (memory_under self.old other) c → memory_images_of (memory_under self.new other) c)) }
+        ensures failed { OnErr result (Rose (memory_open_faults self.old) (memory_open_faults self.new)) }
+        ensures not_failed { OnOk result (memory_open_faults self.new ≡ memory_open_faults self.old) }
+        ensures later { memory_open_faults self.old ≤ memory_open_faults self.new }
+        ensures counted { memory_opens self.new ≡ counted (memory_opens self.old) }
+
+        // It hands out the very disk that stands there, and the others stay.
+        ensures handed { IfOk result (λ d. MemoryHandsOut (memory_under self.old name.now) d) }
+        ensures same_others { (other : List ℕ) → (other ≢ name.now) ⊎ (other ≡ []) → memory_under self.new other ≡ memory_under self.old other }
+
+        // It fails exactly where its number is one of those that fail, and then nothing is handed out.
+        ensures fails { OnErr result (memory_open_fails self.old ≡ true) }
+        ensures passes { OnOk result (memory_open_fails self.old ≡ false) }
+        ensures stays { OnErr result ((other : List ℕ) → memory_under self.new other ≡ memory_under self.old other) }
+        ensures same_failing { memory_failing_opens self.new ≡ memory_failing_opens self.old }
+    {
         let number = self.calls;
         self.calls = number.saturating_add(1);
         if self.failing.contains(&number) {
@@ -101,6 +128,10 @@ impl SureDisks {
 }
 
 impl Disks for SureDisks {
+    ghost use Rattle.std.specs.Prelude.{◌≡◌, ◌≢◌, ◌⊎◌, ℕ, List, [], IfOk, IsOk};
+    ghost use Rattle.sv_outside.specs.Outside.{counted};
+    ghost use Rattle.disk_memory.specs.OpensViews.{sure_under, sure_opens, SureHandsOut};
+    ghost use Rattle.disk_memory.specs.Views.{sure_moment, sure_seen, sure_images};
     ghost use Rattle.disk_memory.specs.DisksViews.{sure_moment_of, sure_seen_of, sure_images_of};
     ghost use Rattle.disk_memory.specs.Named.{under};
 
@@ -118,7 +149,21 @@ impl Disks for SureDisks {
 
     ghost may_leave_of = { λ s name. sure_images_of (under s.disks.items name) };
 
-    fn open(&mut self, name: &str) -> Result<SureDisk, DiskFailed> {
+    fn open(&mut self, name: &str) -> Result<SureDisk, DiskFailed>
+        ensures moment_of { IfOk result (λ d. sure_moment d ≡ sure_moment_of (sure_under self.old name.now)) }
+        ensures image { IfOk result (λ d. sure_seen d ≡ sure_seen_of (sure_under self.old name.now)) }
+        ensures images { IfOk result (λ d. (c : List ℕ) → (sure_images d c → sure_images_of (sure_under self.old name.now) c) × (sure_images_of (sure_under self.old name.now) c → sure_images d c)) }
+        ensures others { (other : List ℕ) → (other ≢ name.now) ⊎ (other ≡ []) →
+            (sure_moment_of (sure_under self.new other) ≡ sure_moment_of (sure_under self.old other))
+            × (sure_seen_of (sure_under self.new other) ≡ sure_seen_of (sure_under self.old other))
+            × ((c : List ℕ) → (sure_images_of (sure_under self.new other) c → sure_images_of (sure_under self.old other) c) × (sure_images_of (sure_under self.old other) c → sure_images_of (sure_under self.new other) c)) }
+        ensures counted { sure_opens self.new ≡ counted (sure_opens self.old) }
+
+        // It hands out the very disk that stands there, and the others stay.
+        ensures handed { IfOk result (λ d. SureHandsOut (sure_under self.old name.now) d) }
+        ensures same_others { (other : List ℕ) → (other ≢ name.now) ⊎ (other ≡ []) → sure_under self.new other ≡ sure_under self.old other }
+        ensures never_fails { IsOk result }
+    {
         self.calls = self.calls.saturating_add(1);
         match take_under(&mut self.disks, name) {
             Some(disk) => Ok(disk),

@@ -3,12 +3,14 @@
 #![tactic(auto)]
 
 mod disks;
+mod images;
 mod medium;
 mod memory_disk;
 mod named;
 mod sure_disk;
 #[cfg(test)]
 mod tests;
+mod torn;
 
 pub use disks::{MemoryDisks, SureDisks};
 pub use memory_disk::MemoryDisk;

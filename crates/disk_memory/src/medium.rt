@@ -40,7 +40,7 @@ fn put(bytes: &mut Vec<u8>, at: usize, piece: &[u8])
     }
 }
 
-fn put_if(done: bool, bytes: &mut Vec<u8>, at: usize, piece: &[u8])
+pub(crate) fn put_if(done: bool, bytes: &mut Vec<u8>, at: usize, piece: &[u8])
     requires place { at ≤ vec_len bytes.old }
     requires room { at + length piece.now ≤ vec_capacity bytes.old }
     ensures written { bytes.new.items ≡ (if done then take at bytes.old.items ++ piece.now ++ drop (at + length piece.now) bytes.old.items else bytes.old.items) }
@@ -51,7 +51,7 @@ fn put_if(done: bool, bytes: &mut Vec<u8>, at: usize, piece: &[u8])
     }
 }
 
-fn cut_if(done: bool, bytes: &mut Vec<u8>, to: usize)
+pub(crate) fn cut_if(done: bool, bytes: &mut Vec<u8>, to: usize)
     ensures cut { bytes.new.items ≡ (if done then take to bytes.old.items else bytes.old.items) }
     ensures room { vec_capacity bytes.old ≤ vec_capacity bytes.new }
 {
@@ -61,15 +61,18 @@ fn cut_if(done: bool, bytes: &mut Vec<u8>, to: usize)
 }
 
 impl Medium {
-    ghost use Rattle.std.specs.Prelude.{◌≡◌, ◌≤◌, ◌+◌, [], true, List, ℕ, length, take, drop, OnOk, IfOk};
+    ghost use Rattle.std.specs.Prelude.{◌≡◌, ◌≤◌, ◌+◌, ◌++◌, ◌∷◌, [], true, List, ℕ, length, take, drop, OnOk, IfOk};
     ghost use Rattle.sv_outside.specs.Disk.{Only, Follows, Torn, Cut, Holds, Elapses, IsStill, HasRoom, TakesRoom};
-    ghost use Rattle.disk_memory.specs.Media.{medium_seen, medium_images, medium_moment, medium_since, medium_room};
+    ghost use Rattle.disk_memory.specs.Calls.Op.{wrote, cut, synced};
+    ghost use Rattle.disk_memory.specs.Media.{medium_first, medium_seen, medium_record, medium_images, medium_moment, medium_since, medium_room};
 
     /// A disk that holds this, all of it on the disk.
     pub(crate) fn new(alloc: Global, image: Vec<u8>) -> Result<Medium, NoMemory>
         ensures seen { IfOk result (λ m. medium_seen m ≡ image.items) }
         ensures only { IfOk result (λ m. Only image.items (medium_images m)) }
         ensures moment { IfOk result (λ m. medium_moment m ≡ 0) }
+        ensures first { IfOk result (λ m. medium_first m ≡ image.items) }
+        ensures record { IfOk result (λ m. medium_record m ≡ []) }
     {
         let bytes = Vec::from_slice(alloc, &image)?;
         Ok(Medium {
@@ -85,6 +88,8 @@ impl Medium {
         ensures seen { medium_seen result ≡ [] }
         ensures images { (c : List ℕ) → (medium_images result c → c ≡ []) × (c ≡ [] → medium_images result c) }
         ensures moment { medium_moment result ≡ 0 }
+        ensures first { medium_first result ≡ [] }
+        ensures record { medium_record result ≡ [] }
     {
         Medium {
             first: Vec::new(alloc),
@@ -100,6 +105,8 @@ impl Medium {
         ensures more { TakesRoom 0 0 (medium_room self.old) (medium_room self.new) }
         ensures seen { medium_seen self.new ≡ medium_seen self.old }
         ensures still { IsStill (medium_moment self.old) (medium_moment self.new) (medium_since self.old) (medium_since self.new) (medium_images self.old) (medium_images self.new) }
+        ensures first { medium_first self.new ≡ medium_first self.old }
+        ensures record { medium_record self.new ≡ medium_record self.old }
     {
         let more = (length as usize).saturating_sub(self.bytes.len());
         self.bytes.reserve(more)?;
@@ -117,6 +124,8 @@ impl Medium {
         ensures crash { Follows (Torn at (length bytes.now)) (medium_images self.old) (medium_images self.new) }
         ensures time { Elapses (medium_moment self.old) (medium_moment self.new) (medium_since self.old) (medium_since self.new) (medium_images self.new) }
         ensures room { TakesRoom 1 (length bytes.now) (medium_room self.old) (medium_room self.new) }
+        ensures first { medium_first self.new ≡ medium_first self.old }
+        ensures noted { medium_record self.new ≡ medium_record self.old ++ wrote at bytes.now done ∷ [] }
     {
         put_if(done, &mut self.bytes, at as usize, bytes);
         match self.store.extend_from_slice(bytes) {
@@ -139,6 +148,8 @@ impl Medium {
         ensures crash { Follows (Cut to) (medium_images self.old) (medium_images self.new) }
         ensures time { Elapses (medium_moment self.old) (medium_moment self.new) (medium_since self.old) (medium_since self.new) (medium_images self.new) }
         ensures room { TakesRoom 1 0 (medium_room self.old) (medium_room self.new) }
+        ensures first { medium_first self.new ≡ medium_first self.old }
+        ensures noted { medium_record self.new ≡ medium_record self.old ++ cut to done ∷ [] }
     {
         cut_if(done, &mut self.bytes, to as usize);
         self.calls.push_reserved(Call::Cut { to, done });
@@ -152,6 +163,8 @@ impl Medium {
         ensures crash { (c : List ℕ) → medium_images self.new c → medium_images self.old c }
         ensures time { Elapses (medium_moment self.old) (medium_moment self.new) (medium_since self.old) (medium_since self.new) (medium_images self.new) }
         ensures room { TakesRoom 1 0 (medium_room self.old) (medium_room self.new) }
+        ensures first { medium_first self.new ≡ medium_first self.old }
+        ensures noted { medium_record self.new ≡ medium_record self.old ++ synced done ∷ [] }
     {
         self.calls.push_reserved(Call::Sync { done });
     }

@@ -2,11 +2,7 @@
 //! error to the checker.
 #![tactic(auto)]
 
-mod host_sink;
-mod host_sources;
-
-use host_sink::HostSink;
-use host_sources::HostSources;
+use disk_file::{HostSink, HostSources};
 use std::alloc::AllocError;
 use std::env;
 use std::process::ExitCode;

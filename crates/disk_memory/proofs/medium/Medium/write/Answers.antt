@@ -28,3 +28,6 @@ returns-clause-crash c = let d = c.args.self.now in
 pub returns-clause-time : goal.returns-clause-time
 returns-clause-time c = let d = c.args.self.now in
     noted_time d.first.items d.store.items c.extend_from_slice.new.self.items d.calls.items c.push_reserved.new.self.items (wrote c.args.at c.args.bytes.now c.args.done) (noted (goal.at.returns-clause-time c).After-push_reserved)
+
+pub returns-clause-noted : goal.returns-clause-noted
+returns-clause-noted c = noted (goal.at.returns-clause-noted c).After-push_reserved

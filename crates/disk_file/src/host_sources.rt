@@ -17,7 +17,13 @@ pub struct HostSources<'a> {
 }
 
 impl<'a> HostSources<'a> {
-    pub fn new(rt: &'a HostRuntime) -> HostSources<'a> {
+    ghost use Rattle.std.specs.Prelude.{◌≡◌};
+    ghost use Rattle.disk_file.specs.HostViews.{host_loads, host_load_faults};
+
+    pub fn new(rt: &'a HostRuntime) -> HostSources<'a>
+        ensures calls { host_loads result ≡ 0 }
+        ensures faults { host_load_faults result ≡ 0 }
+    {
         HostSources {
             rt,
             calls: 0,

@@ -15,14 +15,21 @@ pub struct HostSink {
 }
 
 impl HostSink {
-    pub fn stdout(rt: &HostRuntime) -> HostSink {
+    ghost use Rattle.std.specs.Prelude.{◌≡◌};
+    ghost use Rattle.disk_file.specs.HostViews.{host_put_faults};
+
+    pub fn stdout(rt: &HostRuntime) -> HostSink
+        ensures { host_put_faults result ≡ 0 }
+    {
         HostSink {
             stream: Stream::Output(rt.stdout()),
             faults: 0,
         }
     }
 
-    pub fn stderr(rt: &HostRuntime) -> HostSink {
+    pub fn stderr(rt: &HostRuntime) -> HostSink
+        ensures { host_put_faults result ≡ 0 }
+    {
         HostSink {
             stream: Stream::Error(rt.stderr()),
             faults: 0,

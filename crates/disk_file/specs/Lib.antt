@@ -1,0 +1,2 @@
+pub mod HostViews
+pub mod Untold
