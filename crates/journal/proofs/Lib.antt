@@ -9,4 +9,5 @@ pub mod Numerals
 pub mod Pages
 pub mod Records
 pub mod Repairs
+pub mod Unique
 pub mod Wanting
