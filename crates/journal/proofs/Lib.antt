@@ -3,7 +3,9 @@ pub mod Beginnings
 pub mod Continuing
 pub mod Crash
 pub mod Ends
+pub mod Firsts
 pub mod Holding
+pub mod Listing
 pub mod Moments
 pub mod Numerals
 pub mod Pages
