@@ -3,10 +3,13 @@ pub mod Beginnings
 pub mod Continuing
 pub mod Crash
 pub mod Ends
+pub mod Firsts
 pub mod Holding
+pub mod Listing
 pub mod Moments
 pub mod Numerals
 pub mod Pages
 pub mod Records
 pub mod Repairs
+pub mod Unique
 pub mod Wanting

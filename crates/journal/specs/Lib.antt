@@ -5,10 +5,13 @@ pub mod Gates
 pub mod Headers
 pub mod Journals
 pub mod Lists
+pub mod Looks
 pub mod Nexts
 pub mod Openings
 pub mod Pieces
 pub mod Readings
 pub mod Scans
 pub mod Settling
+pub mod Shelved
+pub mod Shelves
 pub mod Steps

@@ -79,3 +79,9 @@ IsOnce before now other = Unit {0}
 abbrev pub StopsAtClosed : Scan → List ℕ → Scan → Result Step OpenFault → Type 0
 StopsAtClosed old image new (Ok Closed) = IsClosed (drop old.at image) × (new ≡ old)
 StopsAtClosed old image new other = Unit {0}
+
+-- a record that was read lies behind
+abbrev pub GoesFurther : Scan → Scan → Result Step OpenFault → Type 0
+GoesFurther old new (Ok Closed) = Unit {0}
+GoesFurther old new (Ok step) = old.at < new.at
+GoesFurther old new (Err fault) = Unit {0}

@@ -1,4 +1,4 @@
-use std::alloc::AllocError;
+use std::alloc::{AllocError, AllocFailed};
 use sv_base::{DiskFailed, NoMemory};
 
 /// Why a disk is not opened, or not read on.
@@ -44,6 +44,17 @@ impl From<AllocError> for OpenFault {
     ghost from_gives = { λ _ e. e ≡ no_memory };
 
     fn from(_error: AllocError) -> OpenFault {
+        OpenFault::NoMemory
+    }
+}
+
+impl<T: Drop> From<AllocFailed<T>> for OpenFault {
+    ghost use Rattle.std.specs.Prelude.{◌≡◌};
+    ghost use Rattle.journal.specs.declared.fault.OpenFault.TheVariants.{NoMemory as no_memory};
+
+    ghost from_gives = { λ _ e. e ≡ no_memory };
+
+    fn from(_error: AllocFailed<T>) -> OpenFault {
         OpenFault::NoMemory
     }
 }

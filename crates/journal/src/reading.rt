@@ -7,7 +7,7 @@ ghost use Rattle.journal.specs.Endings.{LeftByReading};
 ghost use Rattle.journal.specs.Format.{Entry, IsClosed};
 ghost use Rattle.journal.specs.Scans.{HasRead, IsInside};
 ghost use Rattle.journal.specs.Steps.{IsStepAnswer};
-ghost use Rattle.journal.specs.Nexts.{ReadsOn, AdvancesTo, UnlessDone, IfEnded};
+ghost use Rattle.journal.specs.Nexts.{ReadsOn, AdvancesTo, UnlessDone, IfEnded, PassesOn};
 
 use crate::ending::settle;
 use crate::record::step;
@@ -25,6 +25,7 @@ pub(crate) fn read_on<D: Disk>(
     requires inside { IsInside scan.old }
     requires size { D.told ≡ true → scan.old.size ≡ length (D.seen disk.old) }
     ensures reads { D.told ≡ true → (digests : Digested) (entries : List Entry) → HasRead digests entries scan.old (D.seen disk.old) → ReadsOn digests entries scan.old.version (D.seen disk.old) scan.new result }
+    ensures further { PassesOn scan.old scan.new result }
     ensures ended { D.told ≡ true → IfEnded result (IsClosed (drop scan.new.at (D.seen disk.old))) }
     ensures answer { IsStepAnswer result }
     ensures inside { IsInside scan.new }

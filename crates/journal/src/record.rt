@@ -5,7 +5,7 @@ ghost use Rattle.journal.specs.declared.digests.Digests.{Digests as Digested};
 ghost use Rattle.journal.specs.declared.fault.OpenFault.TheVariants.{Disk as disk_fault};
 ghost use Rattle.journal.specs.Format.{Entry, IsOpen, IsClosed};
 ghost use Rattle.journal.specs.Scans.{HasRead, IsInside};
-ghost use Rattle.journal.specs.Steps.{IsRecordAt, IsRecordAnswer, EndsInside, StepsOn, IsStepAnswer, IsOnce, StopsAtClosed};
+ghost use Rattle.journal.specs.Steps.{IsRecordAt, IsRecordAnswer, EndsInside, StepsOn, IsStepAnswer, IsOnce, GoesFurther, StopsAtClosed};
 
 use crate::bytes::{read_body, read_numbers};
 use crate::scan::{Scan, Step};
@@ -80,6 +80,7 @@ pub(crate) fn step<D: Disk>(alloc: Global, disk: &mut D, scan: &mut Scan) -> Res
     ensures same { (scan.new.size ≡ scan.old.size) × (scan.new.version ≡ scan.old.version) }
     ensures refused { OnErr result (scan.new ≡ scan.old) }
     ensures closed { D.told ≡ true → StopsAtClosed scan.old (D.seen disk.old) scan.new result }
+    ensures further { GoesFurther scan.old scan.new result }
     ensures once { IsOnce scan.old.versioned scan.new.versioned result }
     ensures seen { D.seen disk.new ≡ D.seen disk.old }
     ensures still { IsStill (D.moment disk.old) (D.moment disk.new) (D.left_since disk.old) (D.left_since disk.new) (D.may_leave disk.old) (D.may_leave disk.new) }

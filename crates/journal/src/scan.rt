@@ -30,7 +30,7 @@ impl Scan {
     ghost use Rattle.std.specs.Prelude.{◌≡◌, ◌↔◌, ◌+◌, ◌^◌, ◌<◌, ◌≤◌, [], List, ℕ, true, false, length, OnOk, OnErr};
     ghost use Rattle.journal.specs.declared.digests.Version.TheVariants.{First as version_1};
     ghost use Rattle.journal.specs.Format.{Entry};
-    ghost use Rattle.journal.specs.Steps.{StandsAt, Accepts, IsAcceptAnswer, IsOnce};
+    ghost use Rattle.journal.specs.Steps.{StandsAt, Accepts, IsAcceptAnswer, IsOnce, GoesFurther};
     ghost use Rattle.journal.specs.Headers.{IsKnown};
     ghost use Rattle.journal.specs.Scans.{HasRead, IsInside};
 
@@ -39,6 +39,7 @@ impl Scan {
         requires { 41 ≤ size }
         ensures begun { (image : List ℕ) → length image ≡ size → IsKnown digests.now image version → HasRead digests.now [] result image }
         ensures inside { IsInside result }
+        ensures version { result.version ≡ version }
     {
         Scan {
             version,
@@ -65,6 +66,7 @@ impl Scan {
 
     /// Goes on behind a record.
     pub(crate) fn accept(&mut self, kept: Kept) -> Result<Step, OpenFault>
+        requires here { kept.at ≡ self.old.at }
         requires end { kept.at + 13 + length kept.body.items < self.old.size }
         requires short { self.old.size ≤ 2 ^ 31 }
         ensures accepts { (digests : Digests) (entries : List Entry) (image : List ℕ) → kept.at ≡ self.old.at → HasRead digests entries self.old image → StandsAt kept image → Accepts digests entries kept image self.old self.new result }
@@ -72,6 +74,7 @@ impl Scan {
         ensures same { (self.new.size ≡ self.old.size) × (self.new.version ≡ self.old.version) }
         ensures refused { OnErr result (self.new ≡ self.old) }
         ensures answer { IsAcceptAnswer result }
+        ensures further { GoesFurther self.old self.new result }
         ensures once { IsOnce self.old.versioned self.new.versioned result }
     {
         let end = kept.at + 13 + kept.body.len() as u64;

@@ -1,4 +1,4 @@
-use Rattle.std.proofs.Common.{◌≡◌, true, ◌++◌, ◌∷◌, [], List, ℕ, length, drop, refl, sym, subst, arith, Ok, Err}
+use Rattle.std.proofs.Common.{◌≡◌, true, ◌++◌, ◌∷◌, [], List, ℕ, ◌<◌, length, drop, refl, sym, subst, arith, Ok, Err}
 use Rattle.journal.specs.declared.digests.Digests.{Digests}
 use Rattle.journal.specs.declared.scan.Step.{Step}
 use Rattle.journal.specs.declared.scan.Step.TheVariants.{Closed, Record}
@@ -6,7 +6,7 @@ use Rattle.journal.specs.declared.scan.Scan.{Scan}
 use Rattle.journal.specs.Format.{Entry, IsClosed}
 use Rattle.journal.specs.Lists.{version_entry}
 use Rattle.journal.specs.Scans.{HasRead}
-use Rattle.journal.specs.Steps.{StepsOn, StopsAtClosed}
+use Rattle.journal.specs.Steps.{StepsOn, StopsAtClosed, GoesFurther}
 use Rattle.journal.proofs.Continuing.{hands_out, comes_to_end, comes_to_fault, from_here, read_here, again}
 use Rattle.journal.proofs.reading.read_on.Goals as goal
 use Rattle.journal.proofs.reading.read_on.Goals.{After-step-2}
@@ -88,3 +88,12 @@ returns-in-Ok-Closed-step-clause-ended g c = λ told.
     let stops = subst (λ (s : Step). StopsAtClosed c.step.new.scan (g.D.Disk.seen c.step.new.disk) c.step-2.new.scan (Ok s)) c.in-Ok-Closed-step.field-0-is (c.in-Ok-Closed-step.ensures.closed told) in
     let closed : IsClosed (drop c.step.new.scan.at image) = subst (λ (l : List ℕ). IsClosed (drop c.step.new.scan.at l)) c.step.ensures.seen stops.0 in
     subst (λ (s : Scan). IsClosed (drop s.at image)) (sym stops.1) closed
+
+pub returns-in-Ok-Record-clause-further : goal.returns-in-Ok-Record-clause-further
+returns-in-Ok-Record-clause-further g c = subst (λ (s : Step). GoesFurther c.args.scan.now c.step.new.scan (Ok s)) c.in-Ok-Record.field-0-is c.in-Ok-Record.ensures.further
+
+pub returns-in-Ok-Record-step-clause-further : goal.returns-in-Ok-Record-step-clause-further
+returns-in-Ok-Record-step-clause-further g c =
+    let one : c.args.scan.now.at < c.step.new.scan.at = subst (λ (s : Step). GoesFurther c.args.scan.now c.step.new.scan (Ok s)) c.in-Ok-Version.field-0-is c.in-Ok-Version.ensures.further in
+    let two : c.step.new.scan.at < c.step-2.new.scan.at = subst (λ (s : Step). GoesFurther c.step.new.scan c.step-2.new.scan (Ok s)) c.in-Ok-Record-step.field-0-is c.in-Ok-Record-step.ensures.further in
+    omega (arith, one, two)

@@ -1,0 +1,5 @@
+use Rattle.journal.proofs.Unique.{one_list}
+use Rattle.journal.proofs.laws.one_list.Goals as goal
+
+pub returns : goal.returns
+returns c = λ digests entries others image one other. one_list digests entries others image one other

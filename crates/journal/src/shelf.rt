@@ -1,0 +1,123 @@
+ghost use Rattle.std.specs.Prelude.{◌≡◌, ◌++◌, ◌∷◌, [], List, length, OnOk, OnErr, IsErrOf};
+ghost use Rattle.indexmap.specs.IndexMap.{get};
+ghost use Rattle.journal.specs.declared.fault.OpenFault.TheVariants.{NoMemory as no_memory};
+ghost use Rattle.journal.specs.declared.shelf.Place.{Place as Placed};
+ghost use Rattle.journal.specs.Format.{Entry};
+ghost use Rattle.journal.specs.Shelves.{same_place, place_of, IsFirst};
+
+use crate::{Kept, OpenFault};
+use indexmap::IndexMap;
+use std::alloc::Global;
+
+// The body that stands for that of the round before.
+const SHORT: [u8; 1] = [6];
+
+/// A task of a round.
+#[derive(Clone, Copy, PartialEq, Eq, Hash)]
+pub(crate) struct Place {
+    pub(crate) round: u32,
+    pub(crate) task: u32,
+}
+
+// Notes where a record is, unless one of the same place is before it.
+fn note(firsts: &mut IndexMap<Place, usize>, place: Place, index: usize) -> Result<(), OpenFault>
+    ensures noted { OnOk result ((entries : List Entry) (entry : Entry) → length entries ≡ index → place ≡ place_of entry → ((q : Placed) → IsFirst (get same_place firsts.old q) entries q) → (q : Placed) → IsFirst (get same_place firsts.new q) (entries ++ entry ∷ []) q) }
+    ensures refused { OnErr result (IsErrOf result no_memory) }
+{
+    if firsts.get(&place).is_some() {
+        return Ok(());
+    }
+    firsts.insert(place, index)?;
+    Ok(())
+}
+
+/// Records as they are given, and the index of the first of each place.
+#[derive(Drop)]
+pub(crate) struct Shelf {
+    pub(crate) records: Vec<Kept>,
+    pub(crate) firsts: IndexMap<Place, usize>,
+}
+
+impl Shelf {
+    ghost use Rattle.std.specs.Prelude.{◌≡◌, [], find, IfOk, OnOk, OnErr, IsErrOf};
+    ghost use Rattle.journal.specs.declared.fault.OpenFault.TheVariants.{NoMemory as no_memory};
+    ghost use Rattle.journal.specs.Looks.{filled};
+    ghost use Rattle.journal.specs.Shelved.{HasFirsts, shelf_records};
+    ghost use Rattle.journal.specs.Shelves.{is_of, given, IsBodyOf, Gains};
+    ghost use Rattle.journal.specs.Steps.{entry_of};
+
+    pub(crate) fn new(alloc: Global) -> Shelf
+        ensures empty { shelf_records result ≡ [] }
+        ensures firsts { HasFirsts result }
+    {
+        Shelf {
+            records: Vec::new(alloc),
+            firsts: IndexMap::new(alloc),
+        }
+    }
+
+    // The body of the first record of a place, where there is one.
+    fn body_at(&self, alloc: Global, place: Place) -> Result<Option<Vec<u8>>, OpenFault>
+        requires { HasFirsts self.now }
+        ensures body { IfOk result (IsBodyOf (find (is_of place) (given (shelf_records self.now)))) }
+        ensures refused { OnErr result (IsErrOf result no_memory) }
+    {
+        match self.firsts.get(&place) {
+            Some(index) => Ok(Some(self.records[*index].body.as_slice().to_vec(alloc)?)),
+            None => Ok(None),
+        }
+    }
+
+    // A record, with the body that a short one stands for, where there is one.
+    fn fill(&self, alloc: Global, kept: Kept) -> Result<Kept, OpenFault>
+        requires { HasFirsts self.now }
+        ensures filled { IfOk result (λ k. entry_of k ≡ filled (given (shelf_records self.now)) (entry_of kept)) }
+        ensures at { IfOk result (λ k. k.at ≡ kept.at) }
+        ensures refused { OnErr result (IsErrOf result no_memory) }
+    {
+        if kept.body.as_slice() != SHORT.as_slice() {
+            return Ok(kept);
+        }
+        if kept.round == 0 {
+            return Ok(kept);
+        }
+        let place = Place {
+            round: kept.round - 1,
+            task: kept.task,
+        };
+        match self.body_at(alloc, place) {
+            Ok(Some(body)) => Ok(Kept {
+                round: kept.round,
+                task: kept.task,
+                body,
+                at: kept.at,
+            }),
+            Ok(None) => Ok(kept),
+            Err(fault) => Err(fault),
+        }
+    }
+
+    /// Adds a record, with the body that a short one stands for.
+    pub(crate) fn add(&mut self, alloc: Global, kept: Kept) -> Result<(), OpenFault>
+        requires { HasFirsts self.old }
+        ensures gains { OnOk result (Gains (shelf_records self.old) kept (shelf_records self.new)) }
+        ensures firsts { OnOk result (HasFirsts self.new) }
+        ensures refused { OnErr result (IsErrOf result no_memory) }
+    {
+        let kept = self.fill(alloc, kept)?;
+        let place = Place {
+            round: kept.round,
+            task: kept.task,
+        };
+        let index = self.records.len();
+        self.records.push(kept)?;
+        note(&mut self.firsts, place, index)
+    }
+
+    pub(crate) fn into_records(self) -> Vec<Kept>
+        ensures { result.items ≡ shelf_records self }
+    {
+        let Shelf { records, firsts: _ } = self;
+        records
+    }
+}
