@@ -1,2 +1,12 @@
+pub mod Accepting
+pub mod Beginnings
+pub mod Continuing
 pub mod Crash
+pub mod Ends
+pub mod Holding
 pub mod Moments
+pub mod Numerals
+pub mod Pages
+pub mod Records
+pub mod Repairs
+pub mod Wanting

@@ -1,10 +1,15 @@
 -- How a run of disk calls goes on.
-use Rattle.std.proofs.Common.{refl, inl, inr, ⊎_elim, ℕ, List, arith}
-use Rattle.sv_outside.specs.Disk.{Elapses, LeavesOnly, Torn}
+use Rattle.std.proofs.Common.{◌≤◌, length, refl, sym, subst, inl, inr, ⊎_elim, ℕ, List, arith}
+use Rattle.std.proofs.lemmas.List.{take_all}
+use Rattle.sv_outside.specs.Disk.{Elapses, LeavesOnly, Torn, Cut, IsStill}
 
 -- a write that did nothing
 pub torn_same : (at n : ℕ) (image : List ℕ) → Torn at n image image
 torn_same at n image = record { before = refl; after = refl; no_shorter = omega arith; no_longer = omega arith }
+
+-- a cut that did nothing
+pub cut_same : (n : ℕ) (image : List ℕ) → n ≤ length image → Cut n image image
+cut_same n image long = record { no_shorter = long; front = take_all (length image) image (omega arith) }
 
 module _ {D : Type 0} (moment : D → ℕ) (left_since : D → ℕ → List ℕ → Type 0) where
   -- before the first call
@@ -31,3 +36,23 @@ module _ {D : Type 0} (moment : D → ℕ) (left_since : D → ℕ → List ℕ 
 
   pub weaker : (old new : D) (P R : List ℕ → Type 0) → LeavesOnly moment left_since old new P → ((c : List ℕ) → P c → R c) → LeavesOnly moment left_since old new R
   weaker old new P R one p = record { later = one.later; each = λ c left. p c (one.each c left); before = λ t c le left. ⊎_elim (λ b. inl b) (λ h. inr (p c h)) (one.before t c le left) }
+
+  -- a call that changes nothing, before a run
+  pub still_on : (old mid new : D) (P : List ℕ → Type 0) (was is : List ℕ → Type 0) → IsStill (moment old) (moment mid) (left_since old) (left_since mid) was is → LeavesOnly moment left_since mid new P → LeavesOnly moment left_since old new P
+  still_on old mid new P was is still run = record {
+    later = omega (arith, still.moment, run.later);
+    each = λ c left. run.each c (subst (λ (t : ℕ). left_since new t c) (sym still.moment) left);
+    before = λ t c le left. ⊎_elim (λ b. inl ((still.past_same t c).0 b)) (λ h. inr h) (run.before t c (omega (arith, le, still.moment)) left);
+  }
+
+  -- a call that changes nothing, after a run
+  pub on_still : (old mid new : D) (P : List ℕ → Type 0) (was is : List ℕ → Type 0) → LeavesOnly moment left_since old mid P → IsStill (moment mid) (moment new) (left_since mid) (left_since new) was is → LeavesOnly moment left_since old new P
+  on_still old mid new P was is run still = record {
+    later = omega (arith, still.moment, run.later);
+    each = λ c left. run.each c ((still.past_same (moment old) c).0 left);
+    before = λ t c le left. run.before t c le ((still.past_same t c).0 left);
+  }
+
+  -- a call that changes nothing
+  pub resting : (old new : D) (P : List ℕ → Type 0) (was is : List ℕ → Type 0) → IsStill (moment old) (moment new) (left_since old) (left_since new) was is → ((c : List ℕ) → left_since old (moment old) c → P c) → LeavesOnly moment left_since old new P
+  resting old new P was is still here = on_still old old new P was is (started old P here) still

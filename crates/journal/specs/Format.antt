@@ -1,5 +1,5 @@
 -- The records of a journal, and what an image stands for.
-use Rattle.std.specs.Prelude.{◌≡◌, ◌≢◌, ◌⊎◌, ℕ, List, [], ◌∷◌, ◌++◌, length}
+use Rattle.std.specs.Prelude.{◌≡◌, ◌≢◌, ◌⊎◌, ◌≤◌, ◌^◌, ℕ, List, [], ◌∷◌, ◌++◌, length}
 use Rattle.byteorder.specs.Endian.{big_bytes}
 
 -- what a record says: the body of a task of a round
@@ -23,6 +23,12 @@ IsClosed [] = ⊥
 IsClosed (gate ∷ []) = Unit {0}
 IsClosed (gate ∷ x ∷ rest) = gate ≢ 1
 
+-- a gate that counts as open: it is, and is not the last byte
+abbrev pub IsOpen : List ℕ → Type 0
+IsOpen [] = ⊥
+IsOpen (gate ∷ []) = ⊥
+IsOpen (gate ∷ x ∷ rest) = gate ≡ 1
+
 -- behind the header stand these records, up to the first closed gate
 abbrev pub Stands : List ℕ → List Entry → List ℕ → Type 0
 Stands header entries image = (tail : List ℕ) × (image ≡ (header ++ opened entries) ++ tail) × IsClosed tail
@@ -31,6 +37,12 @@ Stands header entries image = (tail : List ℕ) × (image ≡ (header ++ opened 
 abbrev pub at_rest : List ℕ → List Entry → List ℕ
 at_rest header entries = (header ++ opened entries) ++ 0 ∷ []
 
--- the records from before, or those and one more
+-- the same with any gate that is closed
+pub record Rests (header : List ℕ) (entries : List Entry) (image : List ℕ) : Type 0 where
+  pub last : ℕ
+  pub shut : last ≢ 1
+  pub whole : image ≡ (header ++ opened entries) ++ last ∷ []
+
+-- the records from before, or those and one more, in an image that is not too long
 abbrev pub IsBeforeOrAfter : List ℕ → List Entry → Entry → List ℕ → Type 0
-IsBeforeOrAfter header entries entry image = Stands header entries image ⊎ Stands header (entries ++ entry ∷ []) image
+IsBeforeOrAfter header entries entry image = (length image ≤ 2 ^ 31) × (Stands header entries image ⊎ Stands header (entries ++ entry ∷ []) image)

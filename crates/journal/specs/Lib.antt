@@ -1,4 +1,14 @@
+pub mod Damages
+pub mod Endings
 pub mod Format
 pub mod Gates
+pub mod Headers
 pub mod Journals
+pub mod Lists
+pub mod Nexts
+pub mod Openings
 pub mod Pieces
+pub mod Readings
+pub mod Scans
+pub mod Settling
+pub mod Steps

@@ -1,7 +1,7 @@
 ghost use Rattle.std.specs.Prelude.{◌≡◌, ◌≤◌, ◌+◌, ◌++◌, [], ◌∷◌, List, ℕ, true, length, OnOk, OnErr};
 ghost use Rattle.sv_outside.specs.Outside.{Rose};
 ghost use Rattle.sv_outside.specs.Disk.{Only, LeavesOnly};
-ghost use Rattle.journal.specs.Format.{Entry, bytes_of, opened, at_rest, IsBeforeOrAfter};
+ghost use Rattle.journal.specs.Format.{Entry, bytes_of, opened, at_rest, Rests, IsBeforeOrAfter};
 ghost use Rattle.journal.specs.Gates.{HasReserved};
 
 use crate::synced::write_synced;
@@ -12,9 +12,9 @@ use sv_outside::Disk;
 pub(crate) fn append_at<D: Disk>(disk: &mut D, gate: u64, bytes: &[u8]) -> Result<(), DiskFailed>
     requires place { D.told ≡ true → gate + 1 ≤ length (D.seen disk.old) }
     requires room { HasReserved (D.room disk.old) gate (length bytes.now) }
-    ensures any_moment { D.told ≡ true → (header : List ℕ) (entries : List Entry) (entry : Entry) → bytes.now ≡ bytes_of entry ++ 0 ∷ [] → length (header ++ opened entries) ≡ gate → Only (at_rest header entries) (D.may_leave disk.old)
+    ensures any_moment { D.told ≡ true → (header : List ℕ) (entries : List Entry) (entry : Entry) (now : List ℕ) → bytes.now ≡ bytes_of entry ++ 0 ∷ [] → length (header ++ opened entries) ≡ gate → Rests header entries now → Only now (D.may_leave disk.old)
         → LeavesOnly D.moment D.left_since disk.old disk.new (IsBeforeOrAfter header entries entry) }
-    ensures appended { D.told ≡ true → (header : List ℕ) (entries : List Entry) (entry : Entry) → bytes.now ≡ bytes_of entry ++ 0 ∷ [] → length (header ++ opened entries) ≡ gate → Only (at_rest header entries) (D.may_leave disk.old)
+    ensures appended { D.told ≡ true → (header : List ℕ) (entries : List Entry) (entry : Entry) (now : List ℕ) → bytes.now ≡ bytes_of entry ++ 0 ∷ [] → length (header ++ opened entries) ≡ gate → Rests header entries now → Only now (D.may_leave disk.old)
         → OnOk result (Only (at_rest header (entries ++ entry ∷ [])) (D.may_leave disk.new)) }
     ensures longer { D.told ≡ true → OnOk result (gate + 1 + length bytes.now ≤ length (D.seen disk.new)) }
     ensures failed { OnErr result (Rose (D.faults disk.old) (D.faults disk.new)) }

@@ -1,5 +1,9 @@
-use crate::Piece;
 use crate::append::append_at;
+use crate::opening::begin;
+use crate::reader::State;
+use crate::record::LIMIT;
+use crate::{Digests, OpenFault, Piece, Reading};
+use std::alloc::Global;
 use sv_base::DiskFailed;
 use sv_outside::Disk;
 
@@ -13,9 +17,9 @@ pub enum NoRoom {
 
 /// A journal whose records all stand behind open gates, with a closed gate after them.
 pub struct Journal<D: Disk> {
-    disk: D,
-    gate: u64,
-    failed: bool,
+    pub(crate) disk: D,
+    pub(crate) gate: u64,
+    pub(crate) failed: bool,
 }
 
 impl<D: Disk> Drop for Journal<D> {
@@ -28,16 +32,48 @@ impl<D: Disk> Drop for Journal<D> {
     }
 }
 
-const LIMIT: u64 = 2147483648;
-
 impl<D: Disk> Journal<D> {
-    ghost use Rattle.std.specs.Prelude.{◌≡◌, ◌⊎◌, ◌≤◌, ◌+◌, ◌++◌, [], ◌∷◌, List, ℕ, true, false, length, OnOk, OnErr, IsErr};
+    ghost use Rattle.std.specs.Prelude.{◌≡◌, ◌⊎◌, ◌≤◌, ◌+◌, ◌++◌, [], ◌∷◌, List, ℕ, true, false, length, OnOk, OnErr, IfOk, IsErr, IsErrOf};
     ghost use Rattle.sv_outside.specs.Outside.{Rose};
     ghost use Rattle.sv_outside.specs.Disk.{IsStill, LeavesOnly};
-    ghost use Rattle.journal.specs.Format.{Entry, bytes_of, IsBeforeOrAfter};
+    ghost use Rattle.journal.specs.Format.{Entry, bytes_of};
+    ghost use Rattle.journal.specs.declared.fault.OpenFault.TheVariants.{Disk as disk_fault};
+    ghost use Rattle.journal.specs.Openings.{Opens, BecomesOpen, LeftByOpening, RefusesContent, handed_back, answer_of};
+    ghost use Rattle.journal.specs.Readings.{reading_disk, reading_scan, IsGoing, IsReading};
+    ghost use Rattle.journal.specs.Scans.{HasRead};
     ghost use Rattle.journal.specs.Gates.{HasReserved};
+    ghost use Rattle.journal.specs.Settling.{IsPlain, HoldsEither};
+    ghost use Rattle.journal.specs.declared.digests.Digests.{Digests as Digested};
+    ghost use Rattle.journal.specs.declared.digests.Version.{Version as Named};
     ghost use Rattle.journal.specs.Pieces.{piece_bytes};
     ghost use Rattle.journal.specs.Journals.{journal_disk, journal_gate, has_failed, IsJournal, IsSettled, Reserves};
+
+    /// Reads the header of a journal, or begins one where there is none yet, and stops before the first record. A
+    /// refusal hands the disk back.
+    pub fn open(_alloc: Global, disk: D, digests: &Digests) -> Result<Reading<D>, (D, OpenFault)>
+        ensures opens { D.told ≡ true → Opens digests.now (D.seen disk) (answer_of result) }
+        ensures begun { D.told ≡ true → IfOk result (λ r. HasRead digests.now [] (reading_scan r) (D.seen (reading_disk r))) }
+        ensures going { IfOk result (λ r. IsGoing r) }
+        ensures becomes { D.told ≡ true → OnOk result (BecomesOpen digests.now (D.seen disk) (D.seen (handed_back reading_disk result))) }
+
+        // A crash at any moment of the call leaves what one before it could leave, or a journal without records where
+        // the header was not finished.
+        ensures any_moment { D.told ≡ true → LeavesOnly D.moment D.left_since disk (handed_back reading_disk result) (LeftByOpening digests.now (D.seen disk) (D.may_leave disk)) }
+        ensures kept { RefusesContent (answer_of result) → D.seen (handed_back reading_disk result) ≡ D.seen disk }
+        ensures failed { IsErrOf (answer_of result) disk_fault → Rose (D.faults disk) (D.faults (handed_back reading_disk result)) }
+        ensures later { D.faults disk ≤ D.faults (handed_back reading_disk result) }
+        ensures reading { IfOk result (λ r. IsReading D.told D.seen D.may_leave r) }
+    {
+        let mut disk = disk;
+        match begin(&mut disk, digests) {
+            Ok(scan) => Ok(Reading {
+                disk,
+                scan,
+                state: State::Going,
+            }),
+            Err(fault) => Err((disk, fault)),
+        }
+    }
 
     /// Makes room for a record with a body of so many bytes.
     pub fn reserve(&mut self, length: u32) -> Result<(), NoRoom>
@@ -65,15 +101,16 @@ impl<D: Disk> Journal<D> {
         requires journal { IsJournal D.told D.seen self.old }
         requires room { HasReserved (D.room (journal_disk self.old)) (journal_gate self.old) (length (piece_bytes piece.now)) }
 
-        // A crash at any moment of the call leaves the records from before it, with the new one or without.
-        ensures any_moment { D.told ≡ true → has_failed self.old ≡ false → (header : List ℕ) (entries : List Entry) (entry : Entry) →
-            piece_bytes piece.now ≡ bytes_of entry ++ 0 ∷ [] → IsSettled D.told D.may_leave header entries self.old →
-            LeavesOnly D.moment D.left_since (journal_disk self.old) (journal_disk self.new) (IsBeforeOrAfter header entries entry) }
+        // A crash at any moment of the call leaves an image that holds the records from before it, with the new one or
+        // without.
+        ensures any_moment { D.told ≡ true → has_failed self.old ≡ false → (digests : Digested) (version : Named) (entries : List Entry) (entry : Entry) →
+            piece_bytes piece.now ≡ bytes_of entry ++ 0 ∷ [] → IsPlain entry → IsSettled D.told D.may_leave digests version entries self.old →
+            LeavesOnly D.moment D.left_since (journal_disk self.old) (journal_disk self.new) (HoldsEither digests entries entry) }
 
         // At Ok each crash leaves it.
-        ensures appended { D.told ≡ true → (header : List ℕ) (entries : List Entry) (entry : Entry) →
-            piece_bytes piece.now ≡ bytes_of entry ++ 0 ∷ [] → IsSettled D.told D.may_leave header entries self.old →
-            OnOk result (IsSettled D.told D.may_leave header (entries ++ entry ∷ []) self.new) }
+        ensures appended { D.told ≡ true → (digests : Digested) (version : Named) (entries : List Entry) (entry : Entry) →
+            piece_bytes piece.now ≡ bytes_of entry ++ 0 ∷ [] → IsPlain entry → IsSettled D.told D.may_leave digests version entries self.old →
+            OnOk result (IsSettled D.told D.may_leave digests version (entries ++ entry ∷ []) self.new) }
         ensures failed { OnErr result ((has_failed self.old ≡ true) ⊎ Rose (D.faults (journal_disk self.old)) (D.faults (journal_disk self.new))) }
         ensures fails_on { has_failed self.old ≡ true → IsErr result × (self.new ≡ self.old) }
         ensures fails { OnErr result (has_failed self.new ≡ true) }

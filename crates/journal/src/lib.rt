@@ -2,9 +2,27 @@
 #![tactic(auto)]
 
 mod append;
+mod bytes;
+mod cut;
+mod digests;
+mod ending;
+mod fault;
+mod fresh;
+mod header;
 mod journal;
+mod kept;
+mod opening;
 mod piece;
+mod reader;
+mod reading;
+mod record;
+mod scan;
 mod synced;
+mod version;
 
+pub use digests::Digests;
+pub use fault::OpenFault;
 pub use journal::{Journal, NoRoom};
+pub use kept::Kept;
 pub use piece::Piece;
+pub use reader::Reading;

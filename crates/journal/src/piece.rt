@@ -12,7 +12,7 @@ pub struct Piece {
 }
 
 // The round, the task and the length of the body.
-fn numbers(round: u32, task: u32, length: u32) -> [u8; 12]
+pub(crate) fn numbers(round: u32, task: u32, length: u32) -> [u8; 12]
     ensures { result ≡ big_bytes 4 round ++ big_bytes 4 task ++ big_bytes 4 length }
 {
     let mut bytes = [0; 12];
