@@ -1,0 +1,5 @@
+pub mod Walk
+pub mod Order
+pub mod Pairs
+pub mod Clusters
+pub mod Partition
