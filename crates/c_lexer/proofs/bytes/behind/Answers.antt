@@ -1,0 +1,5 @@
+use Rattle.std.proofs.lemmas.List.{take_rest}
+use Rattle.c_lexer.proofs.bytes.behind.Goals as goal
+
+pub returns : goal.returns
+returns c = take_rest c.args.text.now c.args.len

@@ -1,0 +1,14 @@
+pub mod Bytes
+pub mod White
+pub mod Shapes
+pub mod Constants
+pub mod Characters
+pub mod Meaning
+pub mod Directives
+pub mod Spots
+pub mod Cuts
+pub mod Marks
+pub mod Lengths
+pub mod Values
+pub mod Settings
+pub mod Scan
