@@ -1,14 +1,13 @@
 -- Each image that is listed may be left, and what reads is among them.
-use Rattle.std.proofs.Common.{◌≡◌, ℕ, zero, suc, ◌+◌, ◌-◌, ◌≤◌, Bool, true, false, List, [], ◌∷◌, ◌++◌, length, get_or, take, drop, refl, sym, ◌∙◌, ap, subst, arith, inl, inr, append_assoc, take-append-drop, length-append, length-take}
-use Rattle.std.specs.Prelude.{nat_le, replicate}
-use Rattle.std.specs.List.{All, Contains, filter}
-use Rattle.std.proofs.lemmas.Bool.{cases_Bool}
+use Rattle.std.proofs.Common.{◌≡◌, ℕ, zero, suc, ◌+◌, ◌-◌, ◌≤◌, true, false, List, [], ◌∷◌, ◌++◌, length, get_or, take, drop, refl, sym, ◌∙◌, ap, subst, arith, inl, inr, append_assoc, take-append-drop, length-append, length-take}
+use Rattle.std.specs.Prelude.{replicate}
+use Rattle.std.specs.List.{All, Contains}
 use Rattle.std.proofs.lemmas.List.{take_all, drop-drop, length-replicate, append-nil}
-use Rattle.std.proofs.lemmas.List.Elements.{All-append, All-push, All-filter, filter_passes, Contains-append_left, Contains-append_right}
+use Rattle.std.proofs.lemmas.List.Elements.{All-append, All-push, Contains-append_left, Contains-append_right}
 use Rattle.sv_outside.specs.Disk.{Torn, Cut as CutShort}
 use Rattle.disk_memory.specs.Calls.{Op, reads, read_after, past_end, all_past_end, left_after, leaves, image}
 use Rattle.disk_memory.specs.Calls.Op.{wrote, cut, synced}
-use Rattle.disk_memory.specs.Listed.{done_in_part, spoiled, torn_writes, torn_cuts, no_shorter, listed_after, listed_by, listed_images}
+use Rattle.disk_memory.specs.Listed.{done_in_part, spoiled, torn_writes, torn_cuts, listed_after, listed_by, listed_images}
 use Rattle.disk_memory.specs.Laws.{written_torn, here_after}
 
 -- a range that is within another one
@@ -56,11 +55,8 @@ cuts_left r n (suc k) P f inside =
 same_torn : (at n : ℕ) (d : List ℕ) → Torn at n d d
 same_torn at n d = record { before = refl; after = refl; no_shorter = omega arith; no_longer = omega arith }
 
-long_enough : (n : ℕ) (d : List ℕ) → nat_le n (length d) ≡ true → n ≤ length d
-long_enough n d e = grind (arith, e)
-
-same_cut : (n : ℕ) (d : List ℕ) → n ≤ length d → CutShort n d d
-same_cut n d le = record { no_shorter = le; front = take_all (length d) d (omega arith) }
+same_cut : (n : ℕ) (d : List ℕ) → CutShort n d d
+same_cut n d = record { no_shorter = omega arith; front = take_all (length d) d (omega arith) }
 
 -- one call
 listed_left_after : (op : Op) (r : List ℕ) (I : List ℕ → Type 0) (listed : List (List ℕ)) → past_end r op ≡ 0 → I r → All I listed → All (left_after r I op) (listed_after r listed op)
@@ -69,9 +65,8 @@ listed_left_after (wrote at bytes done) r I listed e i all =
     (λ k d inside. (get_or listed k d, all k d inside, same_torn at (length bytes) (get_or listed k d)))
     (writes_left r bytes at (length bytes) (left_after r I (wrote at bytes done)) (λ c t. (r, i, t)) (omega (arith, e)) (omega arith))
 listed_left_after (cut n done) r I listed e i all =
-    let kept : List (List ℕ) = no_shorter n listed in
-    All-append (left_after r I (cut n done)) kept (torn_cuts r n (length r - n))
-    (λ k d inside. (get_or kept k d, All-filter (λ d. nat_le n (length d)) I listed all k d inside, same_cut n (get_or kept k d) (long_enough n (get_or kept k d) (filter_passes (λ d. nat_le n (length d)) listed k d inside))))
+    All-append (left_after r I (cut n done)) listed (torn_cuts r n (length r - n))
+    (λ k d inside. (get_or listed k d, all k d inside, same_cut n (get_or listed k d)))
     (cuts_left r n (length r - n) (left_after r I (cut n done)) (λ c t. (r, i, t)) (omega (arith, e)))
 listed_left_after (synced true) r I listed e i all = All-push (λ c. c ≡ r) [] r (λ k d inside. absurd (omega (arith, inside))) refl
 listed_left_after (synced false) r I listed e i all = all
@@ -85,27 +80,14 @@ listed_left (o ∷ ops) r I listed e i all =
 pub each_may_be_left : (first : List ℕ) (ops : List Op) → all_past_end first ops ≡ 0 → All (image first ops) (listed_images first ops)
 each_may_be_left first ops e = listed_left ops first (λ x. x ≡ first) (first ∷ []) e refl (All-push (λ c. c ≡ first) [] first (λ k d inside. absurd (omega (arith, inside))) refl)
 
-in_kept : {X : Type 0} (p : X → Bool) (xs : List X) (x : X) → p x ≡ true → Contains xs x → Contains (filter p xs) x
-in_kept p [] x yes' (k, inside, is) = absurd (omega (arith, inside))
-in_kept p (y ∷ xs) x yes' (zero, inside, is) = rw (is, yes') (0, omega arith, refl)
-in_kept p (y ∷ xs) x yes' (suc k, inside, is) =
-    let rest : Contains (filter p xs) x = in_kept p xs x yes' (k, omega (arith, inside), is) in
-    elim (cases_Bool (p y)) [
-      | inl kept ↦ rw kept (suc rest.0, omega (arith, rest.1), rest.2)
-      | inr gone ↦ rw gone rest
-    ]
-
-long_yes : (n : ℕ) (d : List ℕ) → n ≤ length d → nat_le n (length d) ≡ true
-long_yes n d le = grind (arith, le)
-
 -- a cut as it was asked for is the first of its forms
 first_cut : (r : List ℕ) (n k : ℕ) → Contains (torn_cuts r n (suc k)) (take n r)
 first_cut r n zero = let e : n + 0 ≡ n = omega arith in (0, omega arith, ap (λ (m : ℕ). take m r) e)
 first_cut r n (suc k) = Contains-append_left (torn_cuts r n (suc k)) (take (n + suc k) r ∷ []) (take n r) (first_cut r n k)
 
-cut_listed : (r : List ℕ) (n k : ℕ) (kept : List (List ℕ)) → n + k ≡ length r → Contains kept r → Contains (kept ++ torn_cuts r n k) (take n r)
-cut_listed r n zero kept e has = rw (take_all n r (omega (arith, e))) (Contains-append_left kept [] r has)
-cut_listed r n (suc k) kept e has = Contains-append_right kept (torn_cuts r n (suc k)) (take n r) (first_cut r n k)
+cut_listed : (r : List ℕ) (n k : ℕ) (listed : List (List ℕ)) → n + k ≡ length r → Contains listed r → Contains (listed ++ torn_cuts r n k) (take n r)
+cut_listed r n zero listed e has = rw (take_all n r (omega (arith, e))) (Contains-append_left listed [] r has)
+cut_listed r n (suc k) listed e has = Contains-append_right listed (torn_cuts r n (suc k)) (take n r) (first_cut r n k)
 
 write_listed : (r bytes : List ℕ) (at : ℕ) (listed : List (List ℕ)) → Contains listed r → Contains (listed ++ torn_writes r at bytes (length bytes)) (take at r ++ bytes ++ drop (at + length bytes) r)
 write_listed r [] at listed has =
@@ -123,8 +105,8 @@ write_listed r (b ∷ bytes) at listed has =
 reads_listed_after : (op : Op) (r : List ℕ) (listed : List (List ℕ)) → past_end r op ≡ 0 → Contains listed r → Contains (listed_after r listed op) (read_after r op)
 reads_listed_after (wrote at bytes true) r listed e has = write_listed r bytes at listed has
 reads_listed_after (wrote at bytes false) r listed e has = Contains-append_left listed (torn_writes r at bytes (length bytes)) r has
-reads_listed_after (cut n true) r listed e has = cut_listed r n (length r - n) (no_shorter n listed) (omega (arith, e)) (in_kept (λ d. nat_le n (length d)) listed r (long_yes n r (omega (arith, e))) has)
-reads_listed_after (cut n false) r listed e has = Contains-append_left (no_shorter n listed) (torn_cuts r n (length r - n)) r (in_kept (λ d. nat_le n (length d)) listed r (long_yes n r (omega (arith, e))) has)
+reads_listed_after (cut n true) r listed e has = cut_listed r n (length r - n) listed (omega (arith, e)) has
+reads_listed_after (cut n false) r listed e has = Contains-append_left listed (torn_cuts r n (length r - n)) r has
 reads_listed_after (synced true) r listed e has = (0, omega arith, refl)
 reads_listed_after (synced false) r listed e has = has
 

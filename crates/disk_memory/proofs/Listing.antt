@@ -1,11 +1,9 @@
 -- Lists of images as lists of their bytes.
-use Rattle.std.proofs.Common.{◌≡◌, ℕ, ◌+◌, suc, List, [], ◌∷◌, ◌++◌, length, refl, ◌∙◌, ap, inl, inr, add-one, append_assoc}
-use Rattle.std.specs.Prelude.{nat_le, Vec}
-use Rattle.std.specs.List.{filter}
+use Rattle.std.proofs.Common.{◌≡◌, ℕ, ◌+◌, suc, List, [], ◌∷◌, ◌++◌, length, ◌∙◌, ap, add-one, append_assoc}
+use Rattle.std.specs.Prelude.{Vec}
 use Rattle.std.specs.declared.alloc.Global.{Global}
-use Rattle.std.proofs.lemmas.Bool.{cases_Bool}
 use Rattle.std.proofs.lemmas.List.{map-append}
-use Rattle.disk_memory.specs.Listed.{done_in_part, spoiled, torn_writes, no_shorter}
+use Rattle.disk_memory.specs.Listed.{done_in_part, spoiled, torn_writes}
 use Rattle.disk_memory.specs.Replay.{contents}
 
 pub contents-push : (images : List (Vec ℕ Global)) (image : Vec ℕ Global) → contents (images ++ image ∷ []) ≡ contents images ++ image.items ∷ []
@@ -23,11 +21,3 @@ torn_writes-next r bytes at k all before now e f =
     let g : now ≡ before ++ (spoiled r at bytes k ∷ done_in_part r at bytes (suc k) ∷ []) = rw add-one at f in
     rw add-one (g ∙ (ap (λ (l : List (List ℕ)). l ++ (spoiled r at bytes k ∷ done_in_part r at bytes (suc k) ∷ [])) e
     ∙ append_assoc all (torn_writes r at bytes k) (spoiled r at bytes k ∷ done_in_part r at bytes (suc k) ∷ [])))
-
-pub contents-no_shorter : (n : ℕ) (images : List (Vec ℕ Global)) → contents (filter (λ v. nat_le n (length v.items)) images) ≡ no_shorter n (contents images)
-contents-no_shorter n [] = refl
-contents-no_shorter n (v ∷ images) =
-    elim (cases_Bool (nat_le n (length v.items))) [
-      | inl same ↦ rw same (ap (λ (l : List (List ℕ)). v.items ∷ l) (contents-no_shorter n images))
-      | inr other ↦ rw other (contents-no_shorter n images)
-    ]

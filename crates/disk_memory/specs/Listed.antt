@@ -1,7 +1,6 @@
 -- Some of the images that a crash may leave, as a list: for each call since the last sync that was done, what it may leave of
 -- what is read before it.
-use Rattle.std.specs.Prelude.{ℕ, zero, suc, ◌+◌, ◌-◌, true, false, nat_le, List, [], ◌∷◌, ◌++◌, length, take, drop, replicate}
-use Rattle.std.specs.List.{filter}
+use Rattle.std.specs.Prelude.{ℕ, zero, suc, ◌+◌, ◌-◌, true, false, List, [], ◌∷◌, ◌++◌, length, take, drop, replicate}
 use Rattle.disk_memory.specs.Calls.{Op, read_after}
 use Rattle.disk_memory.specs.Calls.Op.{wrote, cut, synced}
 
@@ -23,14 +22,10 @@ abbrev pub torn_cuts : List ℕ → ℕ → ℕ → List (List ℕ)
 torn_cuts r n zero = []
 torn_cuts r n (suc k) = torn_cuts r n k ++ take (n + k) r ∷ []
 
--- those that a cut to n may have left as they were
-abbrev pub no_shorter : ℕ → List (List ℕ) → List (List ℕ)
-no_shorter n listed = filter (λ d. nat_le n (length d)) listed
-
 -- the list after one call, and after a list of calls
 abbrev pub listed_after : List ℕ → List (List ℕ) → Op → List (List ℕ)
 listed_after r listed (wrote at bytes done) = listed ++ torn_writes r at bytes (length bytes)
-listed_after r listed (cut n done) = no_shorter n listed ++ torn_cuts r n (length r - n)
+listed_after r listed (cut n done) = listed ++ torn_cuts r n (length r - n)
 listed_after r listed (synced true) = r ∷ []
 listed_after r listed (synced false) = listed
 

@@ -4,7 +4,7 @@ ghost use Rattle.disk_memory.specs.Listed.{listed_after, listed_by, listed_image
 ghost use Rattle.disk_memory.specs.Replay.{contents, op_with, size_of, IsReplayable, IsReplayed, IsSettled};
 
 use crate::medium::{Call, Medium, cut_if, put_if};
-use crate::torn::{keep_no_shorter, push_torn_cuts, push_torn_writes};
+use crate::torn::{push_torn_cuts, push_torn_writes};
 use std::alloc::Global;
 use sv_base::NoMemory;
 
@@ -48,10 +48,7 @@ fn list_call(
 {
     match call {
         Call::Write { at, .. } => push_torn_writes(alloc, images, read, at as usize, piece),
-        Call::Cut { to, .. } => {
-            keep_no_shorter(images, to as usize);
-            push_torn_cuts(alloc, images, read, to as usize)
-        }
+        Call::Cut { to, .. } => push_torn_cuts(alloc, images, read, to as usize),
         Call::Sync { done: true } => {
             images.clear();
             images.push(Vec::from_slice(alloc, read)?)?;

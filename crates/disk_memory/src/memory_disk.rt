@@ -73,7 +73,7 @@ impl MemoryDisk {
 
     /// Some of its crash images. First what stood after the last sync that was done; then, for each call since, what it
     /// may leave of what was read before it: a write with each number of its bytes done, and behind them the old bytes or
-    /// ones, a cut with each length. From a cut on those go that are shorter than it.
+    /// ones, a cut with each length.
     pub fn images(&self, alloc: Global) -> Result<Vec<Vec<u8>>, NoMemory>
         ensures listed { IfOk result (λ l. contents l.items ≡ listed_images (memory_first self.now) (memory_record self.now)) }
         ensures left { IfOk result (λ l. All (memory_images self.now) (contents l.items)) }

@@ -67,6 +67,7 @@ fn images_of_calls_that_were_done(rt: HostRuntime) -> Result<(), Fail> {
         are(
             &cut,
             &[
+                &[7, 8],
                 &[7, 8, 1, 1],
                 &[7, 8, 5],
                 &[7, 8, 5, 1],

@@ -1,5 +1,5 @@
 ghost use Rattle.std.specs.Prelude.{◌≡◌, ◌≤◌, ◌<◌, ◌+◌, ◌-◌, ◌++◌, [], ◌∷◌, length, drop, IfOk, OnOk};
-ghost use Rattle.disk_memory.specs.Listed.{done_in_part, spoiled, torn_writes, torn_cuts, no_shorter};
+ghost use Rattle.disk_memory.specs.Listed.{done_in_part, spoiled, torn_writes, torn_cuts};
 ghost use Rattle.disk_memory.specs.Replay.{contents};
 
 use std::alloc::Global;
@@ -102,11 +102,4 @@ pub(crate) fn push_torn_cuts(
         images.push(Vec::from_slice(alloc, &read[..to + more])?)?;
     }
     Ok(())
-}
-
-/// Lets the shorter ones go.
-pub(crate) fn keep_no_shorter(images: &mut Vec<Vec<u8>>, than: usize)
-    ensures { contents images.new.items ≡ no_shorter than (contents images.old.items) }
-{
-    images.retain(move |image: &Vec<u8>| image.len() >= than);
 }

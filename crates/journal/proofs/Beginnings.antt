@@ -45,7 +45,7 @@ opening_torn digests bytes (x ∷ rest) long is torn =
 pub cut_torn : (now c : List ℕ) → IsUnfinished now → 1 < length now → Cut 1 now c → IsUnfinished c
 cut_torn now c (inl short) long cut = absurd (omega (arith, short, long))
 cut_torn now c (inr begun) long cut =
-    let some : 0 < length c = omega (arith, cut.no_shorter) in
+    let some : 0 < length c = omega (arith, long, cut.no_shorter) in
     let same : get_or c 0 0 ≡ get_or now 0 0 = ap (λ (l : List ℕ). get_or l 0 0) (sym cut.front) ∙ get_or-take (length c) now 0 0 some in
     inr (λ one. begun.0 (sym same ∙ one), omega (arith, ap length cut.front, length-take (length c) now, begun.1))
 

@@ -8,8 +8,8 @@ pub torn_same : (at n : ℕ) (image : List ℕ) → Torn at n image image
 torn_same at n image = record { before = refl; after = refl; no_shorter = omega arith; no_longer = omega arith }
 
 -- a cut that did nothing
-pub cut_same : (n : ℕ) (image : List ℕ) → n ≤ length image → Cut n image image
-cut_same n image long = record { no_shorter = long; front = take_all (length image) image (omega arith) }
+pub cut_same : (n : ℕ) (image : List ℕ) → Cut n image image
+cut_same n image = record { no_shorter = omega arith; front = take_all (length image) image (omega arith) }
 
 module _ {D : Type 0} (moment : D → ℕ) (left_since : D → ℕ → List ℕ → Type 0) where
   -- before the first call

@@ -22,7 +22,7 @@ module _ (image : List ℕ) (gate : ℕ) where
 
   pub cut_ends : (c : List ℕ) → gate + 1 < length image → IsClosed (drop gate image) → Cut (gate + 1) image c → EndsThere gate image c
   cut_ends c long closed cut =
-      let inside : gate < length c = omega (arith, cut.no_shorter) in
+      let inside : gate < length c = omega (arith, long, cut.no_shorter) in
       let same : get_or c gate 0 ≡ last = ap (λ (l : List ℕ). get_or l gate 0) (sym cut.front) ∙ get_or-take (length c) image gate 0 inside in
       let tail : drop gate c ≡ last ∷ drop (gate + 1) c = drop_more c gate 0 inside ∙ ap (λ (k : ℕ). k ∷ drop (gate + 1) c) same in
       record {

@@ -9,7 +9,7 @@ use sv_outside::Disk;
 pub(crate) fn cut_synced<D: Disk>(disk: &mut D, to: u64) -> Result<(), DiskFailed>
     requires place { D.told ≡ true → to ≤ length (D.seen disk.old) }
     requires room { HasRoom (D.room disk.old) 0 2 0 }
-    ensures any_moment { D.told ≡ true → (now : List ℕ) → Only now (D.may_leave disk.old) → to ≤ length now → LeavesOnly D.moment D.left_since disk.old disk.new (Cut to now) }
+    ensures any_moment { D.told ≡ true → (now : List ℕ) → Only now (D.may_leave disk.old) → LeavesOnly D.moment D.left_since disk.old disk.new (Cut to now) }
     ensures cut { D.told ≡ true → OnOk result (D.seen disk.new ≡ take to (D.seen disk.old)) }
     ensures durable { OnOk result (Only (D.seen disk.new) (D.may_leave disk.new)) }
     ensures failed { OnErr result (Rose (D.faults disk.old) (D.faults disk.new)) }

@@ -15,7 +15,7 @@ returns-in_err-cut_synced-clause-any_moment g c = λ told.
     let long : gate + 1 < length image = omega (arith, c.if-scan-gate.true, c.requires.size told) in
     let only : Only image (g.D.Disk.may_leave mid) = λ x left. c.requires.durable x ((c.reserve.ensures.still.images x).0 left) in
     still_on g.D.Disk.moment g.D.Disk.left_since old mid new (EndsThere gate image) (g.D.Disk.may_leave old) (g.D.Disk.may_leave mid) c.reserve.ensures.still
-    (weaker g.D.Disk.moment g.D.Disk.left_since mid new (Cut (gate + 1) image) (EndsThere gate image) (c.cut_synced.ensures.any_moment told image only (omega (arith, long)))
+    (weaker g.D.Disk.moment g.D.Disk.left_since mid new (Cut (gate + 1) image) (EndsThere gate image) (c.cut_synced.ensures.any_moment told image only)
     (λ x t. cut_ends image gate x long (c.requires.closed told) t))
 
 pub returns-then-scan-gate-clause-any_moment : goal.returns-then-scan-gate-clause-any_moment
@@ -28,7 +28,7 @@ returns-then-scan-gate-clause-any_moment g c = λ told.
     let long : gate + 1 < length image = omega (arith, c.if-scan-gate.true, c.requires.size told) in
     let only : Only image (g.D.Disk.may_leave mid) = λ x left. c.requires.durable x ((c.reserve.ensures.still.images x).0 left) in
     still_on g.D.Disk.moment g.D.Disk.left_since old mid new (EndsThere gate image) (g.D.Disk.may_leave old) (g.D.Disk.may_leave mid) c.reserve.ensures.still
-    (weaker g.D.Disk.moment g.D.Disk.left_since mid new (Cut (gate + 1) image) (EndsThere gate image) (c.cut_synced.ensures.any_moment told image only (omega (arith, long)))
+    (weaker g.D.Disk.moment g.D.Disk.left_since mid new (Cut (gate + 1) image) (EndsThere gate image) (c.cut_synced.ensures.any_moment told image only)
     (λ x t. cut_ends image gate x long (c.requires.closed told) t))
 
 pub returns-then-scan-gate-clause-cut : goal.returns-then-scan-gate-clause-cut

@@ -10,7 +10,7 @@ returns-in_err-cut_synced-clause-any_moment g c = λ told.
     let now = g.D.Disk.seen c.args.disk.now in
     let long : 1 < length now = omega (arith, c.requires.size told) in
     weaker g.D.Disk.moment g.D.Disk.left_since c.args.disk.now c.cut_synced.new.disk (Cut 1 now) (HoldsList c.args.digests.now [])
-    (c.cut_synced.ensures.any_moment told now c.requires.durable (omega (arith, long))) (λ x t. unfinished_holds c.args.digests.now x (cut_torn now x (c.requires.unfinished told) long t))
+    (c.cut_synced.ensures.any_moment told now c.requires.durable) (λ x t. unfinished_holds c.args.digests.now x (cut_torn now x (c.requires.unfinished told) long t))
 
 pub returns-clause-any_moment : goal.returns-clause-any_moment
 returns-clause-any_moment g c = λ told.
@@ -19,5 +19,5 @@ returns-clause-any_moment g c = λ told.
     let now = g.D.Disk.seen old in
     let long : 1 < length now = omega (arith, c.requires.size told) in
     then_on g.D.Disk.moment g.D.Disk.left_since old mid c.start_afresh-2.new.disk (Cut 1 now) (HoldsList c.args.digests.now []) (HoldsList c.args.digests.now [])
-    (c.cut_synced.ensures.any_moment told now c.requires.durable (omega (arith, long))) (c.start_afresh-2.ensures.any_moment told (g.D.Disk.seen mid) c.in_ok-cut_synced.ensures.durable)
+    (c.cut_synced.ensures.any_moment told now c.requires.durable) (c.start_afresh-2.ensures.any_moment told (g.D.Disk.seen mid) c.in_ok-cut_synced.ensures.durable)
     (λ x t. unfinished_holds c.args.digests.now x (cut_torn now x (c.requires.unfinished told) long t)) (λ x h. h)
