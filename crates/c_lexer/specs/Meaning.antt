@@ -84,7 +84,7 @@ widened true (Err fault) = Err wide_character
 -- ---- what a text of a shape means; the truth value says if it stands directly behind the name `L`
 pub data Means : Bool → Shape → Text → Meaning → Type 0 where
   word : {wide : Bool} {text : Text} → Means wide shapes.Word text (Ok (word_kind text))
-  constant : {wide : Bool} {text : Text} {value : ℕ} {kind : IntType} → IsConstant text value kind → Means wide shapes.Number text (Ok (kinds.Number value kind))
+  constant : {wide : Bool} {text : Text} {value : ℕ} {kind : IntType} → IsConstant text value kind → Means wide shapes.Number text (Ok (kinds.Number kind value))
   other_number : {wide : Bool} {text : Text} → ((value : ℕ) (kind : IntType) → IsConstant text value kind → ⊥) → Means wide shapes.Number text (no_constant text)
   character : {wide : Bool} (body : Text) {cs : List Character} → Reads body cs → Means wide shapes.Character (39 ∷ (body ++ 39 ∷ [])) (widened wide (character_meaning cs))
   string : {wide : Bool} (body : Text) {cs : List Character} → Reads body cs → Means wide shapes.Text (34 ∷ (body ++ 34 ∷ [])) (widened wide (text_meaning cs))

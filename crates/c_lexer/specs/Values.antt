@@ -42,7 +42,7 @@ constant (b ∷ bs) =
     zero_first (c ∷ cs) = if is_x c then hexadecimal_in cs else constant_in 8 (prefix_len is_octal (48 ∷ c ∷ cs)) (48 ∷ c ∷ cs)
 
 abbrev pub number_kind : Text → Option (ℕ × IntType) → Meaning
-number_kind text (Some c) = Ok (kinds.Number c.0 c.1)
+number_kind text (Some c) = Ok (kinds.Number c.1 c.0)
 number_kind text None = no_constant text
 
 -- ---- characters

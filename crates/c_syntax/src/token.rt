@@ -10,8 +10,8 @@ pub enum TokenKind {
     Word(u8),
     /// An identifier (6.4.2).
     Name,
-    /// An integer constant with its type (6.4.4.1).
-    Number { value: u64, kind: IntType },
+    /// An integer constant with its type (6.4.4.1), which stands first so that a token takes 40 bytes.
+    Number { kind: IntType, value: u64 },
     /// A character constant (6.4.4.4) with the value of its byte as a signed `char`.
     Character(i8),
     /// A string literal (6.4.5).
