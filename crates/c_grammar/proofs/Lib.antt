@@ -1,0 +1,24 @@
+mod Categories
+mod Changes
+mod Choices
+mod ChoicesOfDeclarations
+mod ChoicesOfExpressions
+mod ChoicesOfFiles
+mod ChoicesOfParameters
+mod Described
+mod Entries
+mod EntriesOfDeclarations
+mod EntriesOfExpressions
+mod EntriesOfLevels
+mod EntriesOfStatements
+mod Entry
+mod Firsts
+pub mod Fronts
+mod Parts
+mod Programs
+mod Readers
+mod Rows
+mod RulePrograms
+mod Sorts
+mod Starts
+mod Unique

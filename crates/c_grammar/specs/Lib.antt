@@ -1,0 +1,15 @@
+pub mod Codes
+pub mod Derives
+pub mod Files
+pub mod Items
+pub mod Limits
+pub mod Marks
+pub mod Modes
+pub mod Numbers
+pub mod Operators
+pub mod Productions
+pub mod State
+pub mod Terminals
+pub mod Tokens
+pub mod Trees
+pub mod Words

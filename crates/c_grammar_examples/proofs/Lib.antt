@@ -1,0 +1,11 @@
+mod ArrayStore
+mod Breaks
+mod Cast
+mod Designator
+mod FunctionOfFunctions
+mod NearestIf
+mod Returned
+mod Search
+mod Structure
+mod TypedefAlone
+mod Voids

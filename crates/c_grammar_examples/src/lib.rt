@@ -1,0 +1,23 @@
+//! Lists of tokens as theorems: which are files, with their trees, and where the others break off.
+#![tactic(auto)]
+
+ghost use Rattle.std.specs.Prelude.{[], ◌∷◌, ◌++◌};
+ghost use Rattle.c_grammar.specs.Files.{IsFile, IsFirstBad};
+ghost use Rattle.c_grammar_examples.specs.Examples as x;
+
+/// Files with their trees.
+pub fn files_with_their_trees()
+    ensures array_store { IsFile x.array_store x.array_store_tree }
+    ensures cast { IsFile x.cast x.cast_tree }
+    ensures function_of_functions { IsFile x.function_of_functions x.function_of_functions_tree }
+    ensures nearest_if { IsFile x.nearest_if x.nearest_if_tree }
+    ensures structure { IsFile x.structure x.structure_tree }
+    ensures designator { IsFile x.designator x.designator_tree }
+{}
+
+/// Where lists break off: what stands before the first token with which no file goes on, the token, and what stands behind it.
+pub fn lists_that_break()
+    ensures typedef_name { IsFirstBad (x.typedef_name_before ++ x.typedef_name_bad ∷ x.typedef_name_behind) x.typedef_name_before x.typedef_name_bad x.typedef_name_behind }
+    ensures second_value { IsFirstBad (x.body_before ++ x.second_zero ∷ x.second_zero_behind) x.body_before x.second_zero x.second_zero_behind }
+    ensures early_end { IsFirstBad (x.open_body ++ x.early_end ∷ []) x.open_body x.early_end [] }
+{}

@@ -1,0 +1,14 @@
+//! hold. `specs/Parsers.antt` has parsers as functions, `specs/Exact.antt` says what it means that one reads a symbol of the grammar and
+//! no more.
+#![tactic(auto)]
+
+mod cursor;
+mod error;
+pub mod kinds;
+mod laws;
+mod nesting;
+mod scopes;
+
+pub use cursor::Cursor;
+pub use error::ReadError;
+pub use laws::postfix_is_exact;
