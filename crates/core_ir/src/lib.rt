@@ -4,6 +4,8 @@
 
 mod artifacts;
 mod classes;
+mod laws;
+mod order;
 mod program;
 mod shapes;
 mod statics;
@@ -12,6 +14,11 @@ mod views;
 
 pub use artifacts::{Artifact, Bounds, CallPart, Constraint, Solution, Stored, WritePart};
 pub use classes::{ClassTable, FunctionNodes, LayoutPart, PartClass, RegionClass};
+pub use laws::{
+    another_table_breaks_it, another_view_breaks_it, one_step_breaks_it, one_text_order,
+    worked_program_fits, worked_view_fits,
+};
+pub use order::in_order;
 pub use program::{CoreProgram, CoreSite, ExternalName, Function, Register};
 pub use shapes::{Part, Shape, ShapeForm};
 pub use statics::{StaticLeaf, StaticUnion, StaticValue};

@@ -6,3 +6,10 @@ pub mod Merging
 pub mod Views
 pub mod Each
 pub mod Meeting
+pub mod Found
+pub mod Steps
+pub mod Taken
+pub mod Links
+pub mod Demanding
+pub mod Lists
+pub mod Running

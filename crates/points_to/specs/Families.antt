@@ -2,6 +2,9 @@
 use Rattle.std.specs.Prelude.{◌≡◌, ℕ, Bool, true, List, [], slice_index_or}
 use Rattle.points_to.specs.Sets.{has}
 
+abbrev pub Relation : Type 1
+Relation = ℕ → ℕ → Type 0
+
 abbrev pub Family : Type 0
 Family = ℕ → ℕ → Bool
 

@@ -11,7 +11,7 @@ use Rattle.core_ir.specs.declared.classes.FunctionNodes.{FunctionNodes}
 use Rattle.core_ir.specs.declared.artifacts.Constraint.{Constraint}
 use Rattle.points_to.specs.declared.rule.Rule.{Rule}
 use Rattle.points_to.specs.declared.rule.Rule.TheVariants as rules
-use Rattle.points_to.specs.Families.{Family, Has, Flows}
+use Rattle.points_to.specs.Families.{Family, Relation, Has, Flows}
 
 -- ---- what a class table says of a member. Members below 2 ^ 31 are region classes, the others functions
 
@@ -82,7 +82,7 @@ pub record IsCopied (classes : ClassTable) (type x y to from : ℕ) : Type 0 whe
 
 -- What a constraint demands, where T and S tell the members of its target's and its source's set, `flows a b` that the set of b
 -- has all that the set of a has, and `gets n m` that the set of n has m.
-abbrev pub Demands : ClassTable → Rule → Constraint → (ℕ → Type 0) → (ℕ → Type 0) → (ℕ → ℕ → Type 0) → (ℕ → ℕ → Type 0) → Type 0
+abbrev pub Demands : ClassTable → Rule → Constraint → (ℕ → Type 0) → (ℕ → Type 0) → Relation → Relation → Type 0
 -- the target's set has the source, a region class or a function
 Demands classes rules.Address c T S flows gets = gets c.target c.source
 -- the target's set has all that the source's has

@@ -66,7 +66,7 @@ fn flows(sets: &[Vec<u32>], from: usize, to: usize) -> bool
 
 #[tactic(auto, unfolding(crate::specs::Tests::TakesLeaves))]
 fn takes_leaves(classes: &ClassTable, sets: &[Vec<u32>], member: u32, to: usize) -> bool
-    ensures { IsTrue result ↔ TakesLeaves classes.now (family_of (lists_of sets.now)) member to }
+    ensures { IsTrue result ↔ TakesLeaves classes.now (Flows (family_of (lists_of sets.now))) member to }
 {
     for leaf in table::leaves(classes, member) {
         if let Some(node) = table::pointer(classes, *leaf)
@@ -80,7 +80,7 @@ fn takes_leaves(classes: &ClassTable, sets: &[Vec<u32>], member: u32, to: usize)
 
 #[tactic(auto, unfolding(crate::specs::Tests::GivesLeaves))]
 fn gives_leaves(classes: &ClassTable, sets: &[Vec<u32>], from: usize, member: u32) -> bool
-    ensures { IsTrue result ↔ GivesLeaves classes.now (family_of (lists_of sets.now)) from member }
+    ensures { IsTrue result ↔ GivesLeaves classes.now (Flows (family_of (lists_of sets.now))) from member }
 {
     for leaf in table::leaves(classes, member) {
         if let Some(node) = table::pointer(classes, *leaf)
@@ -94,7 +94,7 @@ fn gives_leaves(classes: &ClassTable, sets: &[Vec<u32>], from: usize, member: u3
 
 #[tactic(auto, unfolding(crate::specs::Tests::TakesParts))]
 fn takes_parts(classes: &ClassTable, sets: &[Vec<u32>], number: u32, member: u32, to: usize) -> bool
-    ensures { IsTrue result ↔ TakesParts classes.now (family_of (lists_of sets.now)) number member to }
+    ensures { IsTrue result ↔ TakesParts classes.now (Has (family_of (lists_of sets.now))) number member to }
 {
     for part in table::parts(classes, member) {
         if part.part == number && !has(sets, to, part.class) {
@@ -106,7 +106,7 @@ fn takes_parts(classes: &ClassTable, sets: &[Vec<u32>], number: u32, member: u32
 
 #[tactic(auto, unfolding(crate::specs::Tests::TakesLeaf))]
 fn takes_leaf(classes: &ClassTable, sets: &[Vec<u32>], target: u32, source: u32) -> bool
-    ensures { IsTrue result ↔ TakesLeaf classes.now (family_of (lists_of sets.now)) target source }
+    ensures { IsTrue result ↔ TakesLeaf classes.now (Flows (family_of (lists_of sets.now))) target source }
 {
     match (
         table::pointer(classes, target),
@@ -119,7 +119,7 @@ fn takes_leaf(classes: &ClassTable, sets: &[Vec<u32>], target: u32, source: u32)
 
 #[tactic(auto, unfolding(crate::specs::Tests::TakesLike))]
 fn takes_like(classes: &ClassTable, sets: &[Vec<u32>], targets: &[u32], sources: &[u32]) -> bool
-    ensures { IsTrue result ↔ TakesLike classes.now (family_of (lists_of sets.now)) targets.now sources.now }
+    ensures { IsTrue result ↔ TakesLike classes.now (Flows (family_of (lists_of sets.now))) targets.now sources.now }
 {
     for place in 0..targets.len().min(sources.len()) {
         if !takes_leaf(classes, sets, targets[place], sources[place]) {
@@ -129,7 +129,21 @@ fn takes_like(classes: &ClassTable, sets: &[Vec<u32>], targets: &[u32], sources:
     true
 }
 
-#[tactic(auto, unfolding(crate::specs::Tests::TakesLayouts))]
+fn takes_layout(
+    classes: &ClassTable,
+    sets: &[Vec<u32>],
+    layout: u32,
+    target: &LayoutPart,
+    sources: &[u32],
+) -> bool
+    ensures { IsTrue result ↔ (target.now.layout ≡ layout → TakesLike classes.now (Flows (family_of (lists_of sets.now))) target.now.leaves.items sources.now) }
+{
+    if target.layout != layout {
+        return true;
+    }
+    takes_like(classes, sets, &target.leaves, sources)
+}
+
 fn takes_layouts(
     classes: &ClassTable,
     sets: &[Vec<u32>],
@@ -137,17 +151,31 @@ fn takes_layouts(
     targets: &[LayoutPart],
     sources: &[u32],
 ) -> bool
-    ensures { IsTrue result ↔ TakesLayouts classes.now (family_of (lists_of sets.now)) layout targets.now sources.now }
+    ensures { IsTrue result ↔ TakesLayouts classes.now (Flows (family_of (lists_of sets.now))) layout targets.now sources.now }
 {
     for target in targets {
-        if target.layout == layout && !takes_like(classes, sets, &target.leaves, sources) {
+        if !takes_layout(classes, sets, layout, target, sources) {
             return false;
         }
     }
     true
 }
 
-#[tactic(auto, unfolding(crate::specs::Tests::TakesObject))]
+fn takes_source(
+    classes: &ClassTable,
+    sets: &[Vec<u32>],
+    layout: u32,
+    targets: &[LayoutPart],
+    source: &LayoutPart,
+) -> bool
+    ensures { IsTrue result ↔ (source.now.layout ≡ layout → TakesLayouts classes.now (Flows (family_of (lists_of sets.now))) layout targets.now source.now.leaves.items) }
+{
+    if source.layout != layout {
+        return true;
+    }
+    takes_layouts(classes, sets, layout, targets, &source.leaves)
+}
+
 fn takes_object(
     classes: &ClassTable,
     sets: &[Vec<u32>],
@@ -155,18 +183,17 @@ fn takes_object(
     target: u32,
     source: u32,
 ) -> bool
-    ensures { IsTrue result ↔ TakesObject classes.now (family_of (lists_of sets.now)) layout target source }
+    ensures { IsTrue result ↔ TakesObject classes.now (Flows (family_of (lists_of sets.now))) layout target source }
 {
     let targets = table::layouts(classes, target);
     for part in table::layouts(classes, source) {
-        if part.layout == layout && !takes_layouts(classes, sets, layout, targets, &part.leaves) {
+        if !takes_source(classes, sets, layout, targets, part) {
             return false;
         }
     }
     true
 }
 
-#[tactic(auto, unfolding(crate::specs::Tests::TakesObjects))]
 fn takes_objects(
     classes: &ClassTable,
     sets: &[Vec<u32>],
@@ -174,7 +201,7 @@ fn takes_objects(
     target: u32,
     sources: &[u32],
 ) -> bool
-    ensures { IsTrue result ↔ TakesObjects classes.now (family_of (lists_of sets.now)) layout target sources.now }
+    ensures { IsTrue result ↔ TakesObjects classes.now (Flows (family_of (lists_of sets.now))) layout target sources.now }
 {
     for source in sources {
         if !takes_object(classes, sets, layout, target, *source) {
@@ -192,7 +219,7 @@ fn gives_entry(
     from: usize,
     member: u32,
 ) -> bool
-    ensures { IsTrue result ↔ GivesEntry classes.now (family_of (lists_of sets.now)) index from member }
+    ensures { IsTrue result ↔ GivesEntry classes.now (Flows (family_of (lists_of sets.now))) index from member }
 {
     match table::entry(classes, member, index) {
         Some(node) => return flows(sets, from, node),
@@ -202,7 +229,7 @@ fn gives_entry(
 
 #[tactic(auto, unfolding(crate::specs::Tests::TakesResult))]
 fn takes_result(classes: &ClassTable, sets: &[Vec<u32>], member: u32, to: usize) -> bool
-    ensures { IsTrue result ↔ TakesResult classes.now (family_of (lists_of sets.now)) member to }
+    ensures { IsTrue result ↔ TakesResult classes.now (Flows (family_of (lists_of sets.now))) member to }
 {
     match table::outcome(classes, member) {
         Some(node) => return flows(sets, node, to),
@@ -211,7 +238,7 @@ fn takes_result(classes: &ClassTable, sets: &[Vec<u32>], member: u32, to: usize)
 }
 
 fn meets_load(classes: &ClassTable, sets: &[Vec<u32>], from: usize, to: usize) -> bool
-    ensures { IsTrue result ↔ Each (slice_index_or (lists_of sets.now) from []) (λ x. TakesLeaves classes.now (family_of (lists_of sets.now)) x to) }
+    ensures { IsTrue result ↔ Each (slice_index_or (lists_of sets.now) from []) (λ x. TakesLeaves classes.now (Flows (family_of (lists_of sets.now))) x to) }
 {
     for member in set_of(sets, from) {
         if !takes_leaves(classes, sets, *member, to) {
@@ -222,7 +249,7 @@ fn meets_load(classes: &ClassTable, sets: &[Vec<u32>], from: usize, to: usize) -
 }
 
 fn meets_store(classes: &ClassTable, sets: &[Vec<u32>], from: usize, to: usize) -> bool
-    ensures { IsTrue result ↔ Each (slice_index_or (lists_of sets.now) to []) (λ x. GivesLeaves classes.now (family_of (lists_of sets.now)) from x) }
+    ensures { IsTrue result ↔ Each (slice_index_or (lists_of sets.now) to []) (λ x. GivesLeaves classes.now (Flows (family_of (lists_of sets.now))) from x) }
 {
     for member in set_of(sets, to) {
         if !gives_leaves(classes, sets, from, *member) {
@@ -233,7 +260,7 @@ fn meets_store(classes: &ClassTable, sets: &[Vec<u32>], from: usize, to: usize) 
 }
 
 fn meets_part(classes: &ClassTable, sets: &[Vec<u32>], number: u32, from: usize, to: usize) -> bool
-    ensures { IsTrue result ↔ Each (slice_index_or (lists_of sets.now) from []) (λ x. TakesParts classes.now (family_of (lists_of sets.now)) number x to) }
+    ensures { IsTrue result ↔ Each (slice_index_or (lists_of sets.now) from []) (λ x. TakesParts classes.now (Has (family_of (lists_of sets.now))) number x to) }
 {
     for member in set_of(sets, from) {
         if !takes_parts(classes, sets, number, *member, to) {
@@ -250,7 +277,7 @@ fn meets_object_copy(
     from: usize,
     to: usize,
 ) -> bool
-    ensures { IsTrue result ↔ Each (slice_index_or (lists_of sets.now) to []) (λ x. TakesObjects classes.now (family_of (lists_of sets.now)) layout x (slice_index_or (lists_of sets.now) from [])) }
+    ensures { IsTrue result ↔ Each (slice_index_or (lists_of sets.now) to []) (λ x. TakesObjects classes.now (Flows (family_of (lists_of sets.now))) layout x (slice_index_or (lists_of sets.now) from [])) }
 {
     for member in set_of(sets, to) {
         if !takes_objects(classes, sets, layout, *member, set_of(sets, from)) {
@@ -267,7 +294,7 @@ fn meets_argument(
     from: usize,
     callee: usize,
 ) -> bool
-    ensures { IsTrue result ↔ Each (slice_index_or (lists_of sets.now) callee []) (λ x. GivesEntry classes.now (family_of (lists_of sets.now)) index from x) }
+    ensures { IsTrue result ↔ Each (slice_index_or (lists_of sets.now) callee []) (λ x. GivesEntry classes.now (Flows (family_of (lists_of sets.now))) index from x) }
 {
     for member in set_of(sets, callee) {
         if !gives_entry(classes, sets, index, from, *member) {
@@ -278,7 +305,7 @@ fn meets_argument(
 }
 
 fn meets_result(classes: &ClassTable, sets: &[Vec<u32>], callee: usize, to: usize) -> bool
-    ensures { IsTrue result ↔ Each (slice_index_or (lists_of sets.now) callee []) (λ x. TakesResult classes.now (family_of (lists_of sets.now)) x to) }
+    ensures { IsTrue result ↔ Each (slice_index_or (lists_of sets.now) callee []) (λ x. TakesResult classes.now (Flows (family_of (lists_of sets.now))) x to) }
 {
     for member in set_of(sets, callee) {
         if !takes_result(classes, sets, *member, to) {

@@ -6,11 +6,19 @@ mod bits;
 mod block;
 mod blocks;
 mod closure;
+mod fitting;
+mod linking;
+mod progress;
+mod reacting;
+mod readers;
 mod rule;
+mod solving;
 mod table;
 #[cfg(test)]
 mod tests;
 
 pub use bits::Bits;
 pub use closure::closed;
+pub use fitting::fits;
 pub use rule::Rule;
+pub use solving::solve;

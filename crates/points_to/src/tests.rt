@@ -1,4 +1,4 @@
-use crate::{Bits, closed};
+use crate::{Bits, closed, fits, solve};
 use core_ir::{
     ClassTable, Constraint, FunctionNodes, LayoutPart, Leaf, PartClass, RegionClass, Solution,
 };
@@ -125,5 +125,123 @@ fn each_rule_is_asked_for(rt: HostRuntime) -> Result<(), Fail> {
         assert!(rt; is_closed(rt.alloc(), row, NONE)?);
         assert!(rt; !is_closed(rt.alloc(), row, row[10])?);
     }
+    Ok(())
+}
+
+fn push(
+    all: &mut Vec<Constraint>,
+    rule: u8,
+    target: u32,
+    source: u32,
+    third: u32,
+) -> Result<(), NoMemory> {
+    all.push(Constraint {
+        rule,
+        target,
+        source,
+        third,
+    })?;
+    Ok(())
+}
+
+// The solution, where all nodes are in range.
+fn solved(
+    alloc: Global,
+    nodes: u32,
+    all: &[Constraint],
+    classes: &ClassTable,
+) -> Result<Option<Solution>, NoMemory> {
+    if !fits(nodes, all, classes) {
+        return Ok(None);
+    }
+    Ok(Some(solve(alloc, nodes, all, classes)?))
+}
+
+// Whether the set of each of the first nodes is the one member 3.
+fn are_threes(sets: &[Vec<u32>]) -> bool {
+    for set in sets {
+        if set.as_slice() != [3].as_slice() {
+            return false;
+        }
+    }
+    true
+}
+
+#[test]
+fn a_chain_hands_its_member_on(rt: HostRuntime) -> Result<(), Fail> {
+    let mut all = Vec::new(rt.alloc());
+    push(&mut all, 1, 1999, 3, 0)?;
+    for node in 0..1999 {
+        push(&mut all, 2, node, node + 1, 0)?;
+    }
+    let classes = table(rt.alloc())?;
+    match solved(rt.alloc(), 2000, &all, &classes)? {
+        Some(solution) => {
+            assert!(rt; solution.sets.len() == 2000);
+            assert!(rt; are_threes(&solution.sets));
+        }
+        None => assert!(rt; false),
+    }
+    Ok(())
+}
+
+#[test]
+fn a_circle_gives_each_node_its_members(rt: HostRuntime) -> Result<(), Fail> {
+    let mut all = Vec::new(rt.alloc());
+    push(&mut all, 1, 0, 7, 0)?;
+    push(&mut all, 2, 1, 0, 0)?;
+    push(&mut all, 2, 0, 1, 0)?;
+    let classes = table(rt.alloc())?;
+    match solved(rt.alloc(), 3, &all, &classes)? {
+        Some(solution) => {
+            assert!(rt; solution.sets.len() == 3);
+            assert_eq!(rt; solution.sets[0].as_slice(), [7].as_slice());
+            assert_eq!(rt; solution.sets[1].as_slice(), [7].as_slice());
+            assert!(rt; solution.sets[2].is_empty());
+        }
+        None => assert!(rt; false),
+    }
+    Ok(())
+}
+
+// Each rule from the addresses of the row's members, and the member that it adds to the row's last set.
+fn rule_adds(alloc: Global, row: &[u32; 11]) -> Result<bool, NoMemory> {
+    let mut all = Vec::new(alloc);
+    push(&mut all, (row[0] & 0xff) as u8, row[1], row[2], row[3])?;
+    for node in 0..6 {
+        if row[4 + node] != NONE && node as u32 != row[10] {
+            push(&mut all, 1, node as u32, row[4 + node], 0)?;
+        }
+    }
+    let classes = table(alloc)?;
+    match solved(alloc, 6, &all, &classes)? {
+        Some(solution) => Ok(
+            closed(6, &all, &classes, &solution)
+                && solution.sets.len() == 6
+                && (row[10] as usize) < 6
+                && solution.sets[row[10] as usize].len() == 1,
+        ),
+        None => Ok(false),
+    }
+}
+
+#[test]
+fn each_rule_adds_its_member(rt: HostRuntime) -> Result<(), Fail> {
+    for row in RULES.iter() {
+        assert!(rt; rule_adds(rt.alloc(), row)?);
+    }
+    Ok(())
+}
+
+#[test]
+fn a_node_out_of_range_does_not_fit(rt: HostRuntime) -> Result<(), Fail> {
+    let mut all = Vec::new(rt.alloc());
+    push(&mut all, 2, 1, 2, 0)?;
+    let classes = table(rt.alloc())?;
+    assert!(rt; fits(3, &all, &classes));
+    assert!(rt; !fits(2, &all, &classes));
+    push(&mut all, 3, 0, 1, 0)?;
+    assert!(rt; !fits(3, &all, &classes));
+    assert!(rt; fits(6, &all, &classes));
     Ok(())
 }

@@ -1,5 +1,5 @@
 -- The registers that are sorted, each once, are those that a test finds of all, in order.
-use Rattle.std.proofs.Common.{◌≡◌, ℕ, zero, suc, ◌+◌, ◌<◌, ◌≤◌, Bool, true, false, cond, ◌||◌, eqb, ◌==◌, List, [], ◌∷◌, length, get_or, slice_get, filter, Contains, Option, Some, None, refl, sym, ap, subst, ◌∙◌, arith, IsPermutation, IsSorted, nat_cmp, filter_map, true≢false, eq-eqb, ne_eqb, eqb-true}
+use Rattle.std.proofs.Common.{◌≡◌, ℕ, zero, suc, ◌+◌, ◌<◌, ◌≤◌, Bool, true, false, cond, ◌||◌, eqb, ◌==◌, List, [], ◌∷◌, length, get_or, filter, Contains, Option, Some, None, refl, sym, ap, subst, ◌∙◌, arith, IsPermutation, IsSorted, nat_cmp, filter_map, true≢false, eq-eqb, ne_eqb, eqb-true}
 use Rattle.std.specs.List.{list_any, range_with_len, cons_option, dedup}
 use Rattle.std.specs.Bool.{⊤}
 use Rattle.std.specs.List.Sorted.{IsStrictlyIncreasing}
@@ -10,7 +10,7 @@ use Rattle.std.proofs.lemmas.Map.Keys.{IsStrictlyIncreasing-dedup}
 use Rattle.std.proofs.lemmas.Map.Views.{Contains-from_any}
 use Rattle.core_ir.specs.declared.program.Register.{Register}
 use Rattle.core_ir.specs.declared.steps.Step.{Step}
-use Rattle.var_clusters.specs.Pairs.{target, is_named, is_named_register, kept_if, named_target, assigned}
+use Rattle.var_clusters.specs.Pairs.{target, is_named, kept_if, named_target, assigned}
 
 -- ---- tests
 

@@ -1,12 +1,12 @@
 -- Lists that hold the registers of their clusters.
-use Rattle.std.proofs.Common.{◌≡◌, ◌≢◌, ℕ, zero, suc, ◌+◌, ◌<◌, ◌≤◌, Bool, true, false, cond, ◌||◌, eqb, ◌==◌, List, [], ◌∷◌, ◌++◌, length, map, get_or, set, drop, slice_get, slice_set, Option, Some, None, Vec, Global, All, refl, sym, ap, subst, ◌∙◌, arith, true≢false, eq-eqb, ne_eqb, eqb-true, ltb, ltb-true, ltb-false, length-append, length-set, get_or-set_same, get_or-set_other}
-use Rattle.std.specs.List.{list_any, range_with_len, slice_index}
+use Rattle.std.proofs.Common.{◌≡◌, ◌≢◌, ℕ, zero, suc, ◌+◌, ◌<◌, ◌≤◌, Bool, true, false, cond, ◌||◌, eqb, ◌==◌, List, [], ◌∷◌, ◌++◌, length, map, get_or, set, slice_get, Option, Some, Vec, Global, All, refl, sym, ap, subst, ◌∙◌, arith, true≢false, eq-eqb, ne_eqb, eqb-true, ltb, ltb-true, ltb-false, length-append, length-set, get_or-set_same, get_or-set_other}
+use Rattle.std.specs.List.{range_with_len, slice_index}
 use Rattle.std.proofs.lemmas.List.{same_lists, length-map, get_or-map, map-set, map_push}
 use Rattle.core_ir.specs.Plain.{lists_of}
 use Rattle.std.proofs.lemmas.List.Folds.{list_any-append, list_any_at}
 use Rattle.std.proofs.lemmas.List.FromFn.{get_or-range_with_len, get_or-map-range_with_len}
 use Rattle.std.proofs.lemmas.Option.{slice_get-get_or, slice_get_past}
-use Rattle.var_clusters.specs.Clusters.{places_from, members, size, moved}
+use Rattle.var_clusters.specs.Clusters.{places_from, size, moved}
 use Rattle.var_clusters.specs.Partition.{AreLists, is_first, listed, placed}
 use Rattle.var_clusters.proofs.Ordered.{has}
 use Rattle.var_clusters.proofs.Moves.{or_false, moved_low, moved_high, moved_other, size_low, size_high, size_other}
@@ -124,7 +124,7 @@ count_past : (a i k n : ℕ) → k < a → length (places_from i k (range_with_l
 count_past a i k zero less = refl
 count_past a i k (suc n) less = rw (ne_eqb a k (λ s. omega (arith, s, less))) (count_past (a + 1) (i + 1) k n (omega (arith, less)))
 
-count_one : (a i k n : ℕ) → a ≤ k → k < a + n → length (places_from i k (range_with_len a n)) ≡ 1
+pub count_one : (a i k n : ℕ) → a ≤ k → k < a + n → length (places_from i k (range_with_len a n)) ≡ 1
 count_one a i k zero le less = absurd (omega (arith, le, less))
 count_one a i k (suc n) le less = by_place (eqb a k) refl (λ more. count_one (a + 1) (i + 1) k n more (omega (arith, less)))
   where

@@ -1,7 +1,7 @@
 -- Registers that are put into the lists of their clusters.
-use Rattle.std.proofs.Common.{◌≡◌, ◌≢◌, ℕ, zero, suc, ◌+◌, ◌<◌, ◌≤◌, Bool, true, false, cond, ◌||◌, nat_lt, min, max, All, eqb, ◌==◌, List, [], ◌∷◌, ◌++◌, length, map, get_or, set, take, filter, fold, Vec, Global, refl, sym, ap, subst, ◌∙◌, arith, true≢false, eq-eqb, ne_eqb, eqb-true, length-set, length-take, get_or-set_same, get_or-set_other, append_assoc, Option, Some, None, slice_get}
+use Rattle.std.proofs.Common.{◌≡◌, ◌≢◌, ℕ, zero, suc, ◌+◌, ◌<◌, Bool, true, false, cond, ◌||◌, nat_lt, min, max, All, eqb, ◌==◌, List, [], ◌∷◌, ◌++◌, length, map, get_or, set, take, filter, fold, Vec, Global, refl, sym, ap, subst, ◌∙◌, arith, true≢false, eq-eqb, ne_eqb, eqb-true, length-set, length-take, get_or-set_same, get_or-set_other, Option, Some, None, slice_get}
 use Rattle.std.specs.List.{range_with_len}
-use Rattle.std.proofs.lemmas.List.{same_lists, length-map, get_or-map, map-set, map_push, take_more}
+use Rattle.std.proofs.lemmas.List.{same_lists, length-map, map-set, map_push, take_more}
 use Rattle.std.proofs.lemmas.List.FromFn.{get_or-map-range_with_len, length-map-range_with_len}
 use Rattle.core_ir.specs.Plain.{lists_of}
 use Rattle.var_clusters.specs.Clusters.{places_from, members, size, has_members, join, united_at, moved, firsts_of, clusters_of}

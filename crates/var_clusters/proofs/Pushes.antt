@@ -4,9 +4,9 @@ use Rattle.std.specs.Bool.{⊤}
 use Rattle.core_ir.specs.declared.program.Register.{Register}
 use Rattle.core_ir.specs.declared.steps.Step as s
 use Rattle.core_ir.specs.declared.steps.Step.{Step}
-use Rattle.var_clusters.specs.Order.{text_order}
+use Rattle.core_ir.specs.Order.{text_order}
 use Rattle.var_clusters.specs.Pairs.{Pair, assigned, neighbours_after, step_pairs}
-use Rattle.var_clusters.proofs.Walks.{loop_row, loop_row_of}
+use Rattle.core_ir.proofs.Walks.{loop_row_of}
 
 pub loop_pairs_of : (registers : List Register) (result : Option ℕ) (x : Step) (v : Vec Step Global) → x ≡ s.Loop v → neighbours_after None (assigned registers (text_order v.items)) ≡ step_pairs registers result x
 loop_pairs_of registers result x v is = sym (ap (step_pairs registers result) is ∙ ap (λ z. neighbours_after None (assigned registers z)) (loop_row_of v))

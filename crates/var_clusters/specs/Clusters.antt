@@ -1,5 +1,5 @@
 -- The clusters of a function's registers. While they are made, each register has the first register of its cluster.
-use Rattle.std.specs.Prelude.{ℕ, Bool, ◌==◌, ◌||◌, ◌+◌, nat_lt, not, cond, min, max, List, [], ◌∷◌, length, map, Option, Some, None}
+use Rattle.std.specs.Prelude.{ℕ, Bool, ◌==◌, ◌||◌, ◌+◌, nat_lt, cond, min, max, List, [], ◌∷◌, length, map, Option, Some}
 use Rattle.std.specs.List.{filter, fold, range_with_len, slice_get}
 use Rattle.core_ir.specs.declared.program.Function.{Function}
 use Rattle.var_clusters.specs.Pairs.{Pair, pairs}

@@ -12,7 +12,7 @@ use Rattle.core_ir.specs.declared.steps.Step as s
 use Rattle.core_ir.specs.declared.steps.Step.{Step}
 use Rattle.core_ir.specs.declared.steps.Value.{Value}
 use Rattle.core_ir.specs.declared.steps.Value.TheVariants as values
-use Rattle.var_clusters.specs.Order.{row_order, text_order}
+use Rattle.core_ir.specs.Order.{row_order, text_order}
 
 abbrev pub Pair : Type 0
 Pair = ℕ × ℕ

@@ -1,5 +1,6 @@
 ghost use Rattle.std.specs.Prelude.{◌≡◌, ◌<◌, ◌^◌, IfOk, All, length, map, [], filter};
 ghost use Rattle.std.specs.List.{fold, range_with_len};
+ghost use Rattle.core_ir.specs.BoundsFit.{ClustersFit};
 ghost use Rattle.core_ir.specs.Plain.{lists_of};
 ghost use Rattle.var_clusters.specs.Clusters.{clusters_of, has_members, join, members};
 ghost use Rattle.var_clusters.specs.Partition.{IsPartition};
@@ -60,7 +61,8 @@ fn kept(alloc: Global, lists: Vec<Vec<u32>>) -> Result<Vec<Vec<u32>>, NoMemory>
 /// matrix in the analysis.
 pub fn clusters(alloc: Global, f: &Function) -> Result<Vec<Vec<u32>>, NoMemory>
     requires { length f.now.registers.items < 2 ^ 32 }
-    ensures { IfOk result (λ found. lists_of found.items ≡ clusters_of f.now) }
+    ensures exact { IfOk result (λ found. lists_of found.items ≡ clusters_of f.now) }
+    ensures fits { IfOk result (λ found. ClustersFit (length f.now.registers.items) (lists_of found.items)) }
 {
     let pairs = pairs(alloc, f)?;
     let partition = joined(alloc, f.registers.len() as u32, &pairs)?;

@@ -2,7 +2,6 @@
 #![tactic(auto)]
 
 mod gathering;
-mod order;
 mod pairs;
 mod partition;
 #[cfg(test)]

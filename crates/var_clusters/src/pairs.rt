@@ -1,11 +1,10 @@
 ghost use Rattle.std.specs.Prelude.{◌≡◌, ◌++◌, IfOk, OnOk, None};
 ghost use Rattle.std.specs.List.{filter_map};
-ghost use Rattle.var_clusters.specs.Order.{text_order};
+ghost use Rattle.core_ir.specs.Order.{text_order};
 ghost use Rattle.var_clusters.specs.Pairs.{register_of, only_one, source, target, is_named, named_target, assigned, neighbours_after, paired, argument_pairs, condition_pairs, base_of, operand_register, step_pairs, pairs};
 
-use crate::order::in_order;
 use c_values::Op;
-use core_ir::{Cond, Function, Operand, Register, Step, Value};
+use core_ir::{Cond, Function, Operand, Register, Step, Value, in_order};
 use std::alloc::Global;
 use sv_base::NoMemory;
 

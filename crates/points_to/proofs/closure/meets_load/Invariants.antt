@@ -1,8 +1,8 @@
 use Rattle.std.proofs.Common.{◌≡◌, ℕ, ◌<◌, Some, slice_get}
 use Rattle.core_ir.specs.Plain.{lists_of}
-use Rattle.points_to.specs.Families.{family_of}
+use Rattle.points_to.specs.Families.{Flows, family_of}
 use Rattle.points_to.specs.Tests.{TakesLeaves}
 use Rattle.points_to.proofs.closure.meets_load.Given as goal
 
 abbrev pub invariant-loop-member : goal.invariant-loop-member
-invariant-loop-member l = (k x : ℕ) → k < l.member-index → slice_get l.member-items k ≡ Some x → TakesLeaves l.classes (family_of (lists_of l.sets)) x l.to
+invariant-loop-member l = (k x : ℕ) → k < l.member-index → slice_get l.member-items k ≡ Some x → TakesLeaves l.classes (Flows (family_of (lists_of l.sets))) x l.to

@@ -1,4 +1,4 @@
-use Rattle.std.proofs.Common.{◌<◌, ◌≡◌, length, take, slice_index, refl, sym, subst}
+use Rattle.std.proofs.Common.{◌<◌, length, take, slice_index, refl, sym, subst}
 use Rattle.var_clusters.proofs.Placings.{gathered_more, index_inside}
 use Rattle.var_clusters.proofs.gathering.gathered.Goals as goal
 

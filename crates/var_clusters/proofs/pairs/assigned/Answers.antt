@@ -1,6 +1,6 @@
 use Rattle.std.proofs.Common.{◌∙◌}
 use Rattle.std.proofs.lemmas.List.Filters.{dedup_is}
-use Rattle.var_clusters.specs.Order.{text_order}
+use Rattle.core_ir.specs.Order.{text_order}
 use Rattle.var_clusters.proofs.Ordered.{assigned_of}
 use Rattle.var_clusters.proofs.pairs.assigned.Goals as goal
 

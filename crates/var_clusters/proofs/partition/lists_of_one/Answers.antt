@@ -1,4 +1,4 @@
-use Rattle.std.proofs.Common.{◌≡◌, ◌++◌, ◌∷◌, [], sym, ap, ◌∙◌}
+use Rattle.std.proofs.Common.{◌++◌, ◌∷◌, [], ap, ◌∙◌}
 use Rattle.core_ir.specs.Plain.{lists_of}
 use Rattle.var_clusters.proofs.Partitions.{pushed_one}
 use Rattle.var_clusters.proofs.partition.lists_of_one.Goals as goal

@@ -1,4 +1,4 @@
-use Rattle.std.proofs.Common.{◌≡◌, ◌<◌, length, sym, ap, subst, ◌∙◌, arith, length-set, slice_set}
+use Rattle.std.proofs.Common.{◌≡◌, ◌<◌, length, sym, ap, subst, ◌∙◌, length-set, slice_set}
 use Rattle.core_ir.specs.Plain.{lists_of}
 use Rattle.var_clusters.specs.Partition.{placed}
 use Rattle.var_clusters.proofs.Partitions.{united_lists, all_below, item_listed, vec_below}

@@ -1,0 +1,5 @@
+pub mod Starting
+pub mod Fitting
+pub mod Walks
+pub mod PlainOrder
+pub mod ViewFitting

@@ -1,0 +1,4 @@
+pub mod Basing
+pub mod Nothing
+pub mod Room
+pub mod Sorting
