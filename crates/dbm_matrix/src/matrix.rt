@@ -10,7 +10,7 @@ use crate::values::{add, keep_stable, max, min, negated, sum};
 use std::marker::Model;
 
 /// Bounds on the differences of 1 to 16 integer variables, numbered from 1, and the constant zero, number 0. The bound at
-/// i and j is that of `v_j - v_i`: so the bounds of a variable itself stand in row 0, and those of its negation in column 0.
+/// i and j is that of `v_j - v_i`: so the first row has the bounds of the variables, the first column those of their negations.
 #[derive(Clone, Copy)]
 pub struct Matrix {
     size: usize,
