@@ -9,6 +9,8 @@ pub mod kinds;
 mod laws;
 mod nesting;
 mod scopes;
+#[cfg(test)]
+mod tests;
 
 pub use cursor::Cursor;
 pub use error::ReadError;
