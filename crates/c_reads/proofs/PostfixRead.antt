@@ -7,7 +7,7 @@ use Rattle.c_tree.specs.declared.lexeme.Lexeme.{Lexeme}
 use Rattle.c_tree.specs.declared.lexeme.LexemeKind.{LexemeKind}
 use Rattle.c_tree.specs.declared.lexeme.LexemeKind.TheVariants as k
 use Rattle.c_grammar.specs.Derives.{Begins}
-use Rattle.c_grammar.specs.Items.{Sym, act, nt, some, change as changed, sym as symbol}
+use Rattle.c_grammar.specs.Items.{Sym, Item, term, act, nt, Shape, some, change as changed, sym as symbol}
 use Rattle.c_grammar.specs.Marks as m
 use Rattle.c_grammar.specs.Productions.{Rule}
 use Rattle.c_grammar.specs.State.{State, enter, leave, begin_operand, end_operand, names_type}
@@ -17,7 +17,7 @@ use Rattle.c_grammar.specs.Tokens.{is_mark, is_mark_of, is_name, is_number, is_c
 use Rattle.c_grammar.specs.Trees.{expression}
 use Rattle.c_reads.specs.Exact.{Stack, Stops, Makes, Does, Parses}
 use Rattle.c_reads.specs.Parsers.{Input, Parser, ◌>>=◌, turns}
-use Rattle.c_reads.specs.Postfix.{name, constant, texts_from, texts, text, operator_marks, begins_operator, parenthesised, primary, subscript, one_argument, arguments_from, some_arguments, arguments, call, member, arrow, bump, operator, operators_from, operators, postfix, Inside, postfix_goes_on}
+use Rattle.c_reads.specs.Postfix.{name, constant, texts_from, texts, text, operator_marks, begins_operator, enclosed, parenthesised, primary, subscript, one_argument, arguments_from, some_arguments, arguments, call, member, arrow, bump, operator, operators_from, operators, postfix, Inside, postfix_goes_on}
 use Rattle.c_reads.proofs.Binding.{Follows, bind, Any, any_follows, give, weaken, here, loosen}
 use Rattle.c_reads.proofs.Steps.{◌then◌, nothing, by_rule, shrinks, took_less, undone, behind_change, tested, taking, changing, either, either_then, rule, stopped, Picks, head_of, chooses}
 
@@ -197,6 +197,19 @@ does_text i = changing enter (λ _ i1 y1. taking w.text (λ t i2 y2. bind (behin
 abbrev Closed : Stack → Type 0
 Closed = Stops (λ s t. not (is_mark m.right_parenthesis t.kind))
 
+-- the item of what is given was read, between a change of the state and a token that closes it
+record Encloses {A : Type 0} (item : A → Item) (mark : ℕ) (a : A) (start end : Input) : Type 0 where
+  closed_by : Lexeme
+  makes : Makes (act enter ∷ item a ∷ term (w.closing (w.mark mark)) closed_by ∷ act leave ∷ []) start end
+
+does_enclosed : {A : Type 0} {H : Stack → Type 0} {shape : Shape} {item : A → Item} {p : Parser A} (mark : ℕ) (i : Input)
+    → Follows H Any (some (w.closing (w.mark mark)) ∷ changed leave ∷ []) → ((j : Input) → Does H (shape ∷ []) (λ a end. Makes (item a ∷ []) j end) p j)
+    → Does Any (changed enter ∷ shape ∷ some (w.closing (w.mark mark)) ∷ changed leave ∷ []) (λ a end. Encloses item mark a i end) (enclosed p mark) i
+unfolding enclosed
+does_enclosed mark i follows inner = changing enter (λ _ i1 y1. bind follows (inner i1) (λ a i2 y2.
+    taking (w.closing (w.mark mark)) (λ u i3 y3. changing leave (λ _ i4 y4.
+    give a i4 (record { closed_by = u; makes = y1 then (y2 then (y3.makes then y4)) })))))
+
 -- one operator was read, and those behind it may follow
 record Applied (a b : Expr) (start mid : Input) : Type 0 where
   less : length mid.rest < length start.rest
@@ -302,25 +315,23 @@ module _ (inside argument : Parser Expr) (exact : Inside inside argument) where
       → Does Any (some (w.operator (w.mark m.left_bracket)) ∷ changed enter ∷ symbol Sym.Expression ∷ some (w.closing (w.mark m.right_bracket)) ∷ changed leave ∷ [])
       (λ b mid. Applied a b i mid) (subscript inside argument a) i
   unfolding subscript
-  does_subscript a i = taking (w.operator (w.mark m.left_bracket)) (λ t i1 y1. changing enter (λ _ i2 y2.
-      bind (stopped Any _ _ (λ s u fit. exact.ends s u (is_right_bracket u.kind fit))) (exact.reads i2) (λ b i3 y3.
-      taking (w.closing (w.mark m.right_bracket)) (λ u i4 y4. changing leave (λ _ i5 y5.
-      give (expression t (e.Index a b)) i5 (record {
-        less = (let l1 = took_less y1 in let l2 = shrinks y2 in let l3 = shrinks y3 in let l4 = took_less y4 in let l5 = shrinks y5 in omega arith);
-        makes = λ c end z. by_rule (Rule.subscript a b c t u) (y1.makes then (y2 then (y3 then (y4.makes then (y5 then z)))));
-      }))))))
+  does_subscript a i = taking (w.operator (w.mark m.left_bracket)) (λ t i1 y1. bind (any_follows Any [])
+      (does_enclosed m.right_bracket i1 (stopped Any _ _ (λ s u fit. exact.ends s u (is_right_bracket u.kind fit))) exact.reads) (λ b i2 y2.
+      give (expression t (e.Index a b)) i2 (record {
+        less = (let l1 = took_less y1 in let l2 = shrinks y2.makes in omega arith);
+        makes = λ c end z. by_rule (Rule.subscript a b c t y2.closed_by) (y1.makes then (y2.makes then z));
+      })))
 
   does_call : (a : Expr) (i : Input)
       → Does Any (some (w.operator (w.mark m.left_parenthesis)) ∷ changed enter ∷ symbol Sym.Arguments ∷ some (w.closing (w.mark m.right_parenthesis)) ∷ changed leave ∷ [])
       (λ b mid. Applied a b i mid) (call inside argument a) i
   unfolding call
-  does_call a i = taking (w.operator (w.mark m.left_parenthesis)) (λ t i1 y1. changing enter (λ _ i2 y2.
-      bind (stopped Any _ _ (λ s u fit. ap not fit)) (does_arguments i2) (λ bs i3 y3.
-      taking (w.closing (w.mark m.right_parenthesis)) (λ u i4 y4. changing leave (λ _ i5 y5.
-      give (expression t (e.Call a bs)) i5 (record {
-        less = (let l1 = took_less y1 in let l2 = shrinks y2 in let l3 = shrinks y3 in let l4 = took_less y4 in let l5 = shrinks y5 in omega arith);
-        makes = λ c end z. by_rule (Rule.call a c bs t u) (y1.makes then (y2 then (y3 then (y4.makes then (y5 then z)))));
-      }))))))
+  does_call a i = taking (w.operator (w.mark m.left_parenthesis)) (λ t i1 y1. bind (any_follows Any [])
+      (does_enclosed m.right_parenthesis i1 (stopped Any _ _ (λ s u fit. ap not fit)) does_arguments) (λ bs i2 y2.
+      give (expression t (e.Call a bs)) i2 (record {
+        less = (let l1 = took_less y1 in let l2 = shrinks y2.makes in omega arith);
+        makes = λ c end z. by_rule (Rule.call a c bs t y2.closed_by) (y1.makes then (y2.makes then z));
+      })))
 
   does_member : (a : Expr) (i : Input) → Does Any (some (w.operator (w.mark m.period)) ∷ some (w.closing w.any_name) ∷ []) (λ b mid. Applied a b i mid) (member inside argument a) i
   unfolding member

@@ -52,6 +52,15 @@ operator_marks = m.left_bracket ∷ m.left_parenthesis ∷ m.period ∷ m.arrow 
 abbrev pub begins_operator : Terminal
 begins_operator = w.terminal (λ s t. is_mark_of operator_marks t.kind) w.unchanged
 
+-- what stands between brackets or parentheses, up to the mark that closes them
+unfoldable pub enclosed : {A : Type 0} → Parser A → ℕ → Parser A
+enclosed p mark = do
+  change enter
+  a ← p
+  take (w.closing (w.mark mark))
+  change leave
+  pure a
+
 module _ (inside : Parser Expr) (argument : Parser Expr) where
   unfoldable pub parenthesised : Parser Expr
   parenthesised = do
@@ -69,10 +78,7 @@ module _ (inside : Parser Expr) (argument : Parser Expr) where
   unfoldable pub subscript : Expr → Parser Expr
   subscript a = do
     t ← take (w.operator (w.mark m.left_bracket))
-    change enter
-    b ← inside
-    take (w.closing (w.mark m.right_bracket))
-    change leave
+    b ← enclosed inside m.right_bracket
     pure (expression t (e.Index a b))
 
   unfoldable pub one_argument : Parser Expr
@@ -95,10 +101,7 @@ module _ (inside : Parser Expr) (argument : Parser Expr) where
   unfoldable pub call : Expr → Parser Expr
   call a = do
     t ← take (w.operator (w.mark m.left_parenthesis))
-    change enter
-    found ← arguments
-    take (w.closing (w.mark m.right_parenthesis))
-    change leave
+    found ← enclosed arguments m.right_parenthesis
     pure (expression t (e.Call a found))
 
   unfoldable pub member : Expr → Parser Expr

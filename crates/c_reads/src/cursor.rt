@@ -1,6 +1,6 @@
 //! The place of a parser: the tokens that are left, and the state that decides which may come next.
 
-ghost use Rattle.std.specs.Prelude.{◌≡◌, Ok, IfOk, length};
+ghost use Rattle.std.specs.Prelude.{◌≡◌, ◌≢◌, ◌≤◌, Ok, IfOk, IfErr, IsErrOf, OnOk, OnErr, length};
 ghost use Rattle.c_grammar.specs.State as state;
 ghost use Rattle.c_grammar.specs.Terminals as w;
 ghost use Rattle.c_reads.specs.Parsers.{sees, take, change, turns, Reads, Takes};
@@ -16,6 +16,8 @@ use c_tree::Lexeme;
 use std::alloc::Global;
 use std::marker::Model;
 
+/// Where a parser stands. A call that takes the next token answers `Wrong` where it does not fit, or where there is none, and none is seen
+/// where there is none.
 #[derive(Drop)]
 pub struct Cursor<'a> {
     rest: &'a [Lexeme],
@@ -47,7 +49,8 @@ impl<'a> Model for Cursor<'a> {
 impl<'a> Cursor<'a> {
     /// At the first token of a file.
     pub fn new(alloc: Global, tokens: &'a [Lexeme]) -> Result<Cursor<'a>, ReadError>
-        ensures { IfOk result (λ c. c ≡ record { state = state.start; rest = tokens.now }) }
+        ensures starts { IfOk result (λ c. c ≡ record { state = state.start; rest = tokens.now }) }
+        ensures needs_memory { IfErr result (λ e. e ≡ ReadError.NoMemory) }
     {
         Ok(Cursor {
             rest: tokens,
@@ -85,6 +88,7 @@ impl<'a> Cursor<'a> {
         }
     }
 
+    /// Whether the next token is a name that is no typedef name.
     pub fn sees_value_name(&self) -> bool
         ensures { result ≡ sees w.value_name self.now }
     {
@@ -94,6 +98,7 @@ impl<'a> Cursor<'a> {
         }
     }
 
+    /// Whether the next token is an integer constant.
     pub fn sees_number(&self) -> bool
         ensures { result ≡ sees w.number self.now }
     {
@@ -103,6 +108,7 @@ impl<'a> Cursor<'a> {
         }
     }
 
+    /// Whether the next token is a character constant.
     pub fn sees_character(&self) -> bool
         ensures { result ≡ sees w.character self.now }
     {
@@ -112,6 +118,7 @@ impl<'a> Cursor<'a> {
         }
     }
 
+    /// Whether the next token is a string literal.
     pub fn sees_text(&self) -> bool
         ensures { result ≡ sees w.text self.now }
     {
@@ -121,9 +128,12 @@ impl<'a> Cursor<'a> {
         }
     }
 
+    /// The punctuator, as no end of an expression.
     #[tactic(auto, unfolding(crate::specs::Parsers::take))]
     pub fn take_mark(&mut self, mark: u8) -> Result<&'a Lexeme, ReadError>
-        ensures { Takes (take (w.mark mark) self.old) result self.new }
+        ensures takes { Takes (take (w.mark mark) self.old) result self.new }
+        ensures needs_no_memory { IfErr result (λ e. e ≢ ReadError.NoMemory) }
+        ensures stays { OnErr result (self.new ≡ self.old) }
     {
         match self.rest {
             [token, rest @ ..] if is_mark(mark, &token.kind) => {
@@ -137,7 +147,9 @@ impl<'a> Cursor<'a> {
     /// The punctuator that ends a unary expression.
     #[tactic(auto, unfolding(crate::specs::Parsers::take))]
     pub fn take_closing(&mut self, mark: u8) -> Result<&'a Lexeme, ReadError>
-        ensures { Takes (take (w.closing (w.mark mark)) self.old) result self.new }
+        ensures takes { Takes (take (w.closing (w.mark mark)) self.old) result self.new }
+        ensures needs_no_memory { IfErr result (λ e. e ≢ ReadError.NoMemory) }
+        ensures stays { OnErr result (self.new ≡ self.old) }
     {
         match self.rest {
             [token, rest @ ..] if is_mark(mark, &token.kind) => {
@@ -149,30 +161,33 @@ impl<'a> Cursor<'a> {
         }
     }
 
-    /// The punctuator as an operator behind its operand.
+    /// The punctuator as an operator behind its operand, which becomes one deeper. A depth that no memory could hold counts as want
+    /// of memory.
     #[tactic(auto, unfolding(crate::specs::Parsers::take))]
     pub fn take_operator(&mut self, mark: u8) -> Result<&'a Lexeme, ReadError>
-        ensures { Takes (take (w.operator (w.mark mark)) self.old) result self.new }
+        ensures takes { Takes (take (w.operator (w.mark mark)) self.old) result self.new }
+        ensures full { IsErrOf result ReadError.NoMemory → usize.MAX ≤ state.top (state.read self.old.state).nesting.deepest }
+        ensures stays { OnErr result (self.new ≡ self.old) }
     {
         match self.rest {
             [token, rest @ ..] if is_mark(mark, &token.kind) => {
-                self.pass(rest);
-                self.nesting.deepen()?;
+                self.pass_operator(rest)?;
                 Ok(token)
             }
             _ => Err(self.refuse()),
         }
     }
 
-    /// `++` or `--` behind its operand.
+    /// `++` or `--` behind its operand, which becomes one deeper.
     #[tactic(auto, unfolding(crate::specs::Parsers::take))]
     pub fn take_bump(&mut self) -> Result<&'a Lexeme, ReadError>
-        ensures { Takes (take (w.closing (w.operator w.bump)) self.old) result self.new }
+        ensures takes { Takes (take (w.closing (w.operator w.bump)) self.old) result self.new }
+        ensures full { IsErrOf result ReadError.NoMemory → usize.MAX ≤ state.top (state.read self.old.state).nesting.deepest }
+        ensures stays { OnErr result (self.new ≡ self.old) }
     {
         match self.rest {
             [token, rest @ ..] if is_bump(&token.kind) => {
-                self.pass(rest);
-                self.nesting.deepen()?;
+                self.pass_operator(rest)?;
                 self.unary = true;
                 Ok(token)
             }
@@ -180,9 +195,12 @@ impl<'a> Cursor<'a> {
         }
     }
 
+    /// Any name, as that of a member, with which a unary expression ends.
     #[tactic(auto, unfolding(crate::specs::Parsers::take))]
     pub fn take_any_name(&mut self) -> Result<&'a Lexeme, ReadError>
-        ensures { Takes (take (w.closing w.any_name) self.old) result self.new }
+        ensures takes { Takes (take (w.closing w.any_name) self.old) result self.new }
+        ensures needs_no_memory { IfErr result (λ e. e ≢ ReadError.NoMemory) }
+        ensures stays { OnErr result (self.new ≡ self.old) }
     {
         match self.rest {
             [token, rest @ ..] if is_name(&token.kind) => {
@@ -194,9 +212,12 @@ impl<'a> Cursor<'a> {
         }
     }
 
+    /// A name that is no typedef name, as an expression.
     #[tactic(auto, unfolding(crate::specs::Parsers::take))]
     pub fn take_value_name(&mut self) -> Result<&'a Lexeme, ReadError>
-        ensures { Takes (take w.value_name self.old) result self.new }
+        ensures takes { Takes (take w.value_name self.old) result self.new }
+        ensures needs_no_memory { IfErr result (λ e. e ≢ ReadError.NoMemory) }
+        ensures stays { OnErr result (self.new ≡ self.old) }
     {
         match self.rest {
             [token, rest @ ..] if self.is_value(token) => {
@@ -208,9 +229,12 @@ impl<'a> Cursor<'a> {
         }
     }
 
+    /// An integer constant.
     #[tactic(auto, unfolding(crate::specs::Parsers::take))]
     pub fn take_number(&mut self) -> Result<&'a Lexeme, ReadError>
-        ensures { Takes (take w.number self.old) result self.new }
+        ensures takes { Takes (take w.number self.old) result self.new }
+        ensures needs_no_memory { IfErr result (λ e. e ≢ ReadError.NoMemory) }
+        ensures stays { OnErr result (self.new ≡ self.old) }
     {
         match self.rest {
             [token, rest @ ..] if is_number(&token.kind) => {
@@ -222,9 +246,12 @@ impl<'a> Cursor<'a> {
         }
     }
 
+    /// A character constant.
     #[tactic(auto, unfolding(crate::specs::Parsers::take))]
     pub fn take_character(&mut self) -> Result<&'a Lexeme, ReadError>
-        ensures { Takes (take w.character self.old) result self.new }
+        ensures takes { Takes (take w.character self.old) result self.new }
+        ensures needs_no_memory { IfErr result (λ e. e ≢ ReadError.NoMemory) }
+        ensures stays { OnErr result (self.new ≡ self.old) }
     {
         match self.rest {
             [token, rest @ ..] if is_character(&token.kind) => {
@@ -236,9 +263,12 @@ impl<'a> Cursor<'a> {
         }
     }
 
+    /// A string literal.
     #[tactic(auto, unfolding(crate::specs::Parsers::take))]
     pub fn take_text(&mut self) -> Result<&'a Lexeme, ReadError>
-        ensures { Takes (take w.text self.old) result self.new }
+        ensures takes { Takes (take w.text self.old) result self.new }
+        ensures needs_no_memory { IfErr result (λ e. e ≢ ReadError.NoMemory) }
+        ensures stays { OnErr result (self.new ≡ self.old) }
     {
         match self.rest {
             [token, rest @ ..] if is_text(&token.kind) => {
@@ -250,6 +280,13 @@ impl<'a> Cursor<'a> {
         }
     }
 
+    /// Whether a token was read that makes the nesting pass 256.
+    pub fn nests_too_deep(&self) -> bool
+        ensures { result ≡ self.now.state.nesting.passed }
+    {
+        self.nesting.passed()
+    }
+
     // A token is read, up to `rest`.
     fn pass(&mut self, rest: &'a [Lexeme])
         ensures { self.new ≡ record { state = state.read self.old.state; rest = rest.now } }
@@ -259,6 +296,20 @@ impl<'a> Cursor<'a> {
         self.nesting.read();
     }
 
+    // The same of an operator behind its operand.
+    fn pass_operator(&mut self, rest: &'a [Lexeme]) -> Result<(), ReadError>
+        ensures passes { OnOk result (self.new ≡ record { state = state.deepen (state.read self.old.state); rest = rest.now }) }
+        ensures full { OnErr result (usize.MAX ≤ state.top (state.read self.old.state).nesting.deepest) }
+        ensures stays { OnErr result (self.new ≡ self.old) }
+        ensures needs_memory { IfErr result (λ e. e ≡ ReadError.NoMemory) }
+    {
+        self.nesting.read_operator()?;
+        self.rest = rest;
+        self.dangling = false;
+        Ok(())
+    }
+
+    // The next token does not fit.
     fn refuse(&self) -> ReadError
         ensures { result ≡ ReadError.Wrong (length self.now.rest) }
     {
@@ -275,7 +326,8 @@ impl<'a> Cursor<'a> {
     /// An operand begins.
     #[tactic(auto, unfolding(crate::specs::Parsers::change))]
     pub fn begin_operand(&mut self) -> Result<(), ReadError>
-        ensures { Reads (change state.begin_operand self.old) result self.new }
+        ensures changes { Reads (change state.begin_operand self.old) result self.new }
+        ensures stays { OnErr result (self.new ≡ self.old) }
     {
         self.nesting.begin_operand()
     }
@@ -288,15 +340,16 @@ impl<'a> Cursor<'a> {
         self.nesting.end_operand();
     }
 
-    /// A node opens.
+    /// A node opens, and with it an operand.
     #[tactic(auto, unfolding(crate::specs::Parsers::change))]
     pub fn enter(&mut self) -> Result<(), ReadError>
-        ensures { Reads (change state.enter self.old) result self.new }
+        ensures changes { Reads (change state.enter self.old) result self.new }
+        ensures stays { OnErr result (self.new ≡ self.old) }
     {
         self.nesting.enter()
     }
 
-    /// A node closes.
+    /// A node closes, and its operand joins the one around it.
     #[tactic(auto, unfolding(crate::specs::Parsers::change))]
     pub fn leave(&mut self)
         ensures { change state.leave self.old ≡ Ok (tt, self.new) }

@@ -1,5 +1,6 @@
-//! hold. `specs/Parsers.antt` has parsers as functions, `specs/Exact.antt` says what it means that one reads a symbol of the grammar and
-//! no more.
+//! Reading tokens by the grammar: a cursor over them, and what the proof of a parser needs, tried on primary and postfix
+//! expressions over parsers of the expressions that they hold. `specs/Parsers.antt` has parsers as functions,
+//! `specs/Exact.antt` says what it means that one reads a symbol of the grammar and no more.
 #![tactic(auto)]
 
 mod cursor;
@@ -8,6 +9,8 @@ pub mod kinds;
 mod laws;
 mod nesting;
 mod scopes;
+#[cfg(test)]
+mod tests;
 
 pub use cursor::Cursor;
 pub use error::ReadError;

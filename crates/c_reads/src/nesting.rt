@@ -1,4 +1,4 @@
-ghost use Rattle.std.specs.Prelude.{◌≡◌, ◌∷◌, ◌+◌, ◌-◌, max, IfErr, OnOk};
+ghost use Rattle.std.specs.Prelude.{◌≡◌, ◌∷◌, ◌+◌, ◌-◌, ◌≤◌, max, IfErr, OnOk, OnErr};
 ghost use Rattle.c_grammar.specs.State as state;
 
 use crate::error::ReadError;
@@ -39,6 +39,13 @@ impl Nesting {
         }
     }
 
+    /// Whether a node stood deeper than 256.
+    pub fn passed(&self) -> bool
+        ensures { result ≡ self.now.passed }
+    {
+        self.passed
+    }
+
     /// A node stands this deep in the innermost operand.
     fn reach(&mut self, depth: usize)
         ensures { self.new ≡ state.reach depth self.old }
@@ -56,14 +63,17 @@ impl Nesting {
         self.reach(self.depth);
     }
 
-    /// An operator puts the operand to its left one deeper. A count that no memory could hold counts as want of memory.
-    pub fn deepen(&mut self) -> Result<(), ReadError>
-        ensures ok { OnOk result (self.new ≡ state.reach (state.top self.old.deepest + 1) self.old) }
+    /// An operator behind its operand is read, which it puts one deeper. A count that no memory could hold counts as want of memory.
+    pub fn read_operator(&mut self) -> Result<(), ReadError>
+        ensures ok { OnOk result (let read = state.reach self.old.depth self.old in self.new ≡ state.reach (state.top read.deepest + 1) read) }
+        ensures full { OnErr result (usize.MAX ≤ max (state.top self.old.deepest) self.old.depth) }
+        ensures stays { OnErr result (self.new ≡ self.old) }
         ensures err { IfErr result (λ e. e ≡ ReadError.NoMemory) }
     {
-        let Some(deeper) = self.top.checked_add(1) else {
+        let Some(deeper) = self.top.max(self.depth).checked_add(1) else {
             return Err(ReadError::NoMemory);
         };
+        self.read();
         self.reach(deeper);
         Ok(())
     }
@@ -71,6 +81,7 @@ impl Nesting {
     /// An operand begins.
     pub fn begin_operand(&mut self) -> Result<(), ReadError>
         ensures ok { OnOk result (self.new ≡ record self.old { deepest = 0 ∷ self.old.deepest }) }
+        ensures stays { OnErr result (self.new ≡ self.old) }
         ensures err { IfErr result (λ e. e ≡ ReadError.NoMemory) }
     {
         self.around.push(self.top)?;
@@ -90,6 +101,7 @@ impl Nesting {
     /// A node opens, and with it an operand. A count that no memory could hold counts as want of memory.
     pub fn enter(&mut self) -> Result<(), ReadError>
         ensures ok { OnOk result (self.new ≡ record { depth = self.old.depth + 1; deepest = 0 ∷ self.old.deepest; passed = self.old.passed }) }
+        ensures stays { OnErr result (self.new ≡ self.old) }
         ensures err { IfErr result (λ e. e ≡ ReadError.NoMemory) }
     {
         let Some(depth) = self.depth.checked_add(1) else {
