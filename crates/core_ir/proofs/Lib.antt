@@ -2,4 +2,8 @@ pub mod Starting
 pub mod Fitting
 pub mod Walks
 pub mod PlainOrder
+pub mod BoundsFitting
 pub mod ViewFitting
+pub mod FactsFitting
+pub mod ArtifactFitting
+pub mod StepFacts

@@ -17,3 +17,6 @@ pub mod Worked
 pub mod Order
 pub mod Walk
 pub mod WorkedView
+pub mod WorkedBounds
+pub mod WorkedFacts
+pub mod WorkedArtifact

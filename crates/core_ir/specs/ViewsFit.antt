@@ -11,8 +11,8 @@ use Rattle.core_ir.specs.Lists.{has, IsAscending}
 use Rattle.core_ir.specs.Plain.{PlainArtifact, PlainCall}
 use Rattle.core_ir.specs.Programs.{PlainExternal, PlainFunction, PlainLayout, PlainProgram, PlainRegion}
 use Rattle.core_ir.specs.Ranges.{leaf_range, Includes}
-use Rattle.core_ir.specs.Starts.{begun_by}
-use Rattle.core_ir.specs.Steps.{PlainStep, Call, in_order}
+use Rattle.core_ir.specs.Starts.{begun_by, begun_in}
+use Rattle.core_ir.specs.Steps.{PlainStep, Check, Load, Store, CopyObject, Call, in_order}
 use Rattle.core_ir.specs.StepsFit.{function_count}
 use Rattle.core_ir.specs.Views.{PlainCallee, PlainClass, PlainFacts, PlainLeaf, PlainView}
 
@@ -73,7 +73,7 @@ pub record DefinedFits (part : PlainCallee) (g : PlainFunction) : Type 0 where
   pub clusters : ClustersFit (length g.registers) part.clusters
   pub result : SomeBoundsFit (result_ranges g part.clusters) part.result
 
--- what is said of an external one
+-- what is said of an external one, of which nothing else is read
 pub record ExternalFits (part : PlainCallee) (x : PlainExternal) : Type 0 where
   pub kind : part.kind ≡ x.kind
   pub external : part.external ≡ true
@@ -87,12 +87,12 @@ abbrev pub IsExternal : PlainCallee → Option PlainExternal → Type 0
 IsExternal part None = ⊥
 IsExternal part (Some x) = ExternalFits part x
 
-abbrev pub CalleeFitsBy : PlainProgram → PlainCallee → Bool → Type 0
-CalleeFitsBy p part true = IsDefined part (slice_get p.functions part.callee)
-CalleeFitsBy p part false = IsExternal part (slice_get p.externals (part.callee - length p.functions))
+abbrev pub CalleePartFitsBy : PlainProgram → PlainCallee → Bool → Type 0
+CalleePartFitsBy p part true = IsDefined part (slice_get p.functions part.callee)
+CalleePartFitsBy p part false = IsExternal part (slice_get p.externals (part.callee - length p.functions))
 
-abbrev pub CalleeFits : PlainProgram → PlainCallee → Type 0
-CalleeFits p part = CalleeFitsBy p part (nat_lt part.callee (length p.functions))
+abbrev pub CalleePartFits : PlainProgram → PlainCallee → Type 0
+CalleePartFits p part = CalleePartFitsBy p part (nat_lt part.callee (length p.functions))
 
 -- ---- classes
 
@@ -145,24 +145,46 @@ pub record IntervalsFit (p : PlainProgram) (parts : List WritePart) : Type 0 whe
 pub record PartsFit (p : PlainProgram) (f : PlainFunction) (steps : List PlainStep) (sets : List (List ℕ)) (callees : List PlainCallee) (leaves : List WritePart) (classes : List PlainClass) : Type 0 where
   pub sets_fit : SetsFit p f sets
   pub callee_order : IsAscending (map (λ part. part.callee) callees)
-  pub callees_fit : AllByRecursion (CalleeFits p) callees
+  pub callees_fit : AllByRecursion (CalleePartFits p) callees
   -- each function that a step may call has its part
   pub callees_there : AllByRecursion (λ g. has (map (λ part. part.callee) callees) g ≡ true) (flat_map (called_by p sets) steps)
+  -- a leaf class without a part holds no number yet
   pub leaves_fit : IntervalsFit p leaves
   pub class_order : IsAscending (map (λ part. part.class) classes)
   pub classes_fit : AllByRecursion (ClassFits p (filter_map copied_by steps)) classes
-  -- each region class of a set, and each object that a step begins, has its part
-  pub classes_there : AllByRecursion (λ class. has (map (λ part. part.class) classes) class ≡ true) (flat_map region_classes sets ++ filter_map begun_by steps)
+
+-- each of these region classes has its part
+abbrev pub HaveParts : List PlainClass → List ℕ → Type 0
+HaveParts parts classes = AllByRecursion (λ class. has (map (λ part. part.class) parts) class ≡ true) classes
 
 -- a view fits a function of a program
 pub record ViewFits (p : PlainProgram) (f : PlainFunction) (view : PlainView) : Type 0 where
   pub parts : PartsFit p f (in_order f.body) view.sets view.callees view.leaves view.classes
+  -- those of all sets, and the objects that the function begins
+  pub classes_there : HaveParts view.classes (flat_map region_classes view.sets ++ begun_in f)
   pub clusters : ClustersFit (length f.registers) view.clusters
   pub context : SomeBoundsFit (context_ranges f view.clusters) view.context
 
+-- the registers of the addresses at which a step looks
+abbrev pub addresses_of : PlainStep → List ℕ
+addresses_of (Check site address width) = address ∷ []
+addresses_of (Load to address leaf volatile) = address ∷ []
+addresses_of (Store address value leaf) = address ∷ []
+addresses_of (CopyObject to from layout) = to ∷ from ∷ []
+addresses_of step = []
+
+abbrev pub classes_at : List (List ℕ) → ℕ → List ℕ
+classes_at sets r = region_classes (slice_index_or sets r [])
+
 -- facts fit a step of a function of a program: they have what the step names
-abbrev pub FactsFit : PlainProgram → PlainFunction → PlainStep → PlainFacts → Type 0
-FactsFit p f step facts = PartsFit p f (step ∷ []) facts.sets facts.callees facts.leaves facts.classes
+pub record FactsFit (p : PlainProgram) (f : PlainFunction) (step : PlainStep) (facts : PlainFacts) : Type 0 where
+  pub parts : PartsFit p f (step ∷ []) facts.sets facts.callees facts.leaves facts.classes
+  -- those of the step's addresses, and the object that it begins
+  pub classes_there : HaveParts facts.classes (flat_map (classes_at facts.sets) (addresses_of step) ++ filter_map begun_by (step ∷ []))
+
+-- the facts that a view has for each step
+abbrev pub facts_in : PlainView → Bool → PlainFacts
+facts_in view rising = record { sets = view.sets; callees = view.callees; leaves = view.leaves; classes = view.classes; rising = rising }
 
 -- ---- contributions and artifacts
 
@@ -175,13 +197,13 @@ EntryFits (Some g) (Some clusters) call = AllBoundsFit (context_ranges g cluster
 EntryFits g clusters call = ⊥
 
 -- a contribution to the context of a callee, which has the form of a context
-abbrev pub CallFits : PlainProgram → List PlainCallee → PlainCall → Type 0
-CallFits p callees call = EntryFits (slice_get p.functions call.callee) (clusters_in callees call.callee) call
+abbrev pub CallPartFits : PlainProgram → List PlainCallee → PlainCall → Type 0
+CallPartFits p callees call = EntryFits (slice_get p.functions call.callee) (clusters_in callees call.callee) call
 
 -- contributions to callees, ascending, and to leaf classes
 pub record ContributionsFit (p : PlainProgram) (callees : List PlainCallee) (calls : List PlainCall) (writes : List WritePart) : Type 0 where
   pub order : IsAscending (map (λ call. call.callee) calls)
-  pub each : AllByRecursion (CallFits p callees) calls
+  pub each : AllByRecursion (CallPartFits p callees) calls
   pub writes_fit : IntervalsFit p writes
 
 -- an older artifact of a function fits its view

@@ -6,6 +6,7 @@ mod artifacts;
 mod classes;
 mod laws;
 mod order;
+mod part_laws;
 mod program;
 mod shapes;
 mod statics;
@@ -19,6 +20,13 @@ pub use laws::{
     worked_program_fits, worked_view_fits,
 };
 pub use order::in_order;
+pub use part_laws::{
+    a_view_has_facts, another_artifact_breaks_it, another_bound_breaks_it,
+    another_callee_breaks_facts, another_class_breaks_facts, another_cluster_breaks_them,
+    another_contribution_breaks_them, another_interval_breaks_facts, another_set_breaks_facts,
+    worked_artifact_fits, worked_bounds_fit, worked_clusters_fit, worked_contributions_fit,
+    worked_facts_fit,
+};
 pub use program::{CoreProgram, CoreSite, ExternalName, Function, Register};
 pub use shapes::{Part, Shape, ShapeForm};
 pub use statics::{StaticLeaf, StaticUnion, StaticValue};
