@@ -45,7 +45,8 @@ text = do
   change leave
   pure (expression t (e.Text bytes))
 
--- the punctuators with which a postfix operator begins
+-- ---- where postfix operators begin, and what they enclose
+-- the punctuators with which one begins
 abbrev pub operator_marks : List ℕ
 operator_marks = m.left_bracket ∷ m.left_parenthesis ∷ m.period ∷ m.arrow ∷ m.plus_plus ∷ m.minus_minus ∷ []
 

@@ -3,12 +3,13 @@ use std::alloc::AllocError;
 /// Why a parser reads nothing more.
 #[derive(Clone, Copy, Debug, PartialEq, Eq)]
 pub enum ReadError {
-    /// Nothing goes on with the token that has this many tokens from it on, itself counted.
+    /// What is being read does not go on with the next token, or none is left: so many are left, the next among them.
     Wrong(usize),
-    /// It would nest deeper than was allowed.
+    /// A parser that is told how deep it may nest would nest deeper. No call of a cursor answers it.
     TooDeep,
-    /// A loop ran out of turns, which never comes.
+    /// A loop ran out of turns. A parser that is exact never answers it (`specs/Exact.antt`), nor does a call of a cursor.
     Spent,
+    /// No memory is left, or none could hold a count.
     NoMemory,
 }
 

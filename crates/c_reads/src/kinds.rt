@@ -9,7 +9,7 @@ ghost use Rattle.c_reads.specs.Postfix.{operator_marks};
 use c_syntax::marks;
 use c_tree::LexemeKind;
 
-/// Whether it is the punctuator.
+/// Whether it is the punctuator with this number (`c_syntax::marks`).
 pub fn is_mark(mark: u8, kind: &LexemeKind) -> bool
     ensures { result ≡ tokens.is_mark mark kind.now }
 {
@@ -44,24 +44,28 @@ pub fn is_postfix(kind: &LexemeKind) -> bool
     }
 }
 
+/// Whether it is a name, a typedef name too.
 pub fn is_name(kind: &LexemeKind) -> bool
     ensures { result ≡ tokens.is_name kind.now }
 {
     matches!(kind, LexemeKind::Name(_))
 }
 
+/// Whether it is an integer constant.
 pub fn is_number(kind: &LexemeKind) -> bool
     ensures { result ≡ tokens.is_number kind.now }
 {
     matches!(kind, LexemeKind::Number(_, _))
 }
 
+/// Whether it is a character constant.
 pub fn is_character(kind: &LexemeKind) -> bool
     ensures { result ≡ tokens.is_character kind.now }
 {
     matches!(kind, LexemeKind::Character(_))
 }
 
+/// Whether it is a string literal.
 pub fn is_text(kind: &LexemeKind) -> bool
     ensures { result ≡ tokens.is_text kind.now }
 {
