@@ -1,10 +1,10 @@
 -- A program that fits has room for the nodes and functions of its constraints.
-use Rattle.std.proofs.Common.{◌≡◌, ℕ, ◌+◌, ◌<◌, ◌≤◌, ◌^◌, List, [], ◌∷◌, length, map, sum, refl, ap, ◌∙◌, arith}
+use Rattle.std.proofs.Common.{◌≡◌, ◌+◌, ◌<◌, ◌≤◌, ◌^◌, List, [], ◌∷◌, length, map, sum, refl, ap, ◌∙◌, arith}
 use Rattle.std.proofs.lemmas.List.{length-map}
 use Rattle.std.proofs.lemmas.List.Sums.{sum_by-cons}
 use Rattle.core_ir.specs.declared.program.CoreProgram.{CoreProgram}
 use Rattle.core_ir.specs.declared.program.Function.{Function}
-use Rattle.core_ir.specs.Programs.{PlainFunction, function_of, external_of, program_of}
+use Rattle.core_ir.specs.Programs.{function_of, external_of, program_of}
 use Rattle.core_ir.specs.ProgramsFit.{ProgramFits}
 use Rattle.pt_facts.specs.Nodes.{function_count, register_count, registers_of}
 

@@ -1,5 +1,5 @@
 -- Constraints that are sorted, each once.
-use Rattle.std.proofs.Common.{◌≡◌, ℕ, Bool, true, false, ◌&&◌, eqb, nat_cmp, List, Contains, IsPermutation, refl, sym, ap, ◌∙◌, eqb-true, true≢false}
+use Rattle.std.proofs.Common.{◌≡◌, Bool, true, false, ◌&&◌, eqb, nat_cmp, List, Contains, IsPermutation, refl, sym, ap, ◌∙◌, eqb-true, true≢false}
 use Rattle.std.specs.Cmp.{IsTotalOrder, IsEquivalence, tied_then, unsigned_ties}
 use Rattle.std.specs.List.{dedup}
 use Rattle.std.specs.Ordering.{eq_by_cmp, is_eq, ordering_then}
