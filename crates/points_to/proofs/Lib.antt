@@ -2,6 +2,7 @@ pub mod Logic
 pub mod Words
 pub mod Ascending
 pub mod Members
+pub mod Lowest
 pub mod Merging
 pub mod Views
 pub mod Each

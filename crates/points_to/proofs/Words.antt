@@ -101,12 +101,6 @@ uncovered b w h some =
       ap (λ i. bit_at w i == 1) digit ∙ not-true (bit_at w k == 1) both.1,
     )
 
--- the test of a bit by a shift
-pub shifted_test : (bits index place : ℕ) → place < 64 → (bit_and (bits / 2 ^ place) 1 == 1) ≡ (bit_at bits ((64 * index + place) % 64) == 1)
-shifted_test bits index place h =
-    let same : (64 * index + place) % 64 ≡ place = omega arith in
-    ap (λ x. x == 1) (shr_and_one bits place) ∙ ap (λ i. bit_at bits i == 1) (sym same)
-
 and_test : (s x y t : Bool) → (s ≡ true → t ≡ y) → (s && (x && not y)) ≡ ((s && x) && not t)
 and_test false x y t tie = refl
 and_test true x y t tie = ap (λ z. x && not z) (sym (tie refl))
