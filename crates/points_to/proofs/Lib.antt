@@ -14,3 +14,4 @@ pub mod Links
 pub mod Demanding
 pub mod Lists
 pub mod Running
+pub mod Naming

@@ -1,11 +1,11 @@
 -- The lowest number of a block, and the others.
-use Rattle.std.proofs.Common.{◌≡◌, ℕ, ◌+◌, ◌*◌, ◌/◌, ◌%◌, ◌^◌, ◌<◌, ◌≤◌, ◌==◌, ◌≢◌, true, false, ◌&&◌, ◌||◌, List, [], ◌∷◌, bit_and, refl, sym, ap, ◌∙◌, inl, inr, eqb-true, eq-eqb, ne_eqb, arith}
+use Rattle.std.proofs.Common.{◌≡◌, ℕ, ◌+◌, ◌*◌, ◌/◌, ◌%◌, ◌^◌, ◌<◌, ◌≤◌, ◌==◌, ◌≢◌, true, ◌&&◌, ◌||◌, List, [], ◌∷◌, bit_and, refl, sym, ap, ◌∙◌, inl, inr, eqb-true, eq-eqb, ne_eqb, arith}
 use Rattle.std.specs.Int.{bit_at, bit_not, w64, trailing_zeros}
 use Rattle.std.proofs.lemmas.Bool.{cases_eq, cases_lt, and_parts, or_left, or_right}
 use Rattle.std.proofs.lemmas.Nat.{and_le_l}
 use Rattle.std.proofs.lemmas.Nat.Bits.{bit_at-trailing_zeros, bit_at_clear_same, bit_at_clear_other}
 use Rattle.points_to.specs.declared.block.Block.{Block}
-use Rattle.points_to.specs.Sets.{has, AllFrom, IsAscending}
+use Rattle.points_to.specs.Sets.{has, AllFrom}
 use Rattle.points_to.specs.Blocks.{block_members, block_has}
 use Rattle.points_to.proofs.Ascending.{same_ascending}
 use Rattle.points_to.proofs.Words.{empty_has}

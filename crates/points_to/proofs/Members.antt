@@ -3,8 +3,7 @@ use Rattle.std.proofs.Common.{◌≡◌, ℕ, zero, suc, ◌+◌, ◌*◌, ◌/�
 use Rattle.std.specs.List.{filter, range_with_len}
 use Rattle.std.specs.Int.{bit_at}
 use Rattle.std.proofs.lemmas.Bool.{cases_eq, cases_lt, or_cases, or_right, or_left, true≢false}
-use Rattle.std.proofs.lemmas.List.FromFn.{filter_of_map_range_with_len_more}
-use Rattle.std.proofs.lemmas.List.{append-nil, append_assoc, map-id, get_or_default, length-map, get_or-map}
+use Rattle.std.proofs.lemmas.List.{get_or_default, length-map, get_or-map}
 use Rattle.points_to.specs.declared.block.Block.{Block}
 use Rattle.points_to.specs.Sets.{has, AllFrom, AllBelow, IsAscending}
 use Rattle.points_to.specs.Blocks.{block_members, members, block_has, blocks_have, indexes}

@@ -1,4 +1,4 @@
-use Rattle.std.proofs.Common.{◌||◌, length, get_or, take, ◌∙◌, sym, ap, arith}
+use Rattle.std.proofs.Common.{◌||◌, get_or, take, ◌∙◌, sym, ap, arith}
 use Rattle.points_to.specs.declared.block.Block.{Block}
 use Rattle.points_to.specs.Blocks.{block_has, blocks_have}
 use Rattle.points_to.proofs.Logic.{or_assoc}
