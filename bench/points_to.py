@@ -30,10 +30,15 @@ def long_chain(nodes, apart):
     return nodes, 0, own + [(COPY, node, node + 1) for node in range(nodes - 1)]
 
 
-def star(nodes, apart):
+def star(nodes, members):
     """One node takes a member from each of the others."""
     rays = range(1, nodes)
-    return nodes, 0, [(ADDRESS, ray, ray * apart) for ray in rays] + [(COPY, 0, ray) for ray in rays]
+    return nodes, 0, [(ADDRESS, ray, member) for ray, member in zip(rays, members)] + [(COPY, 0, ray) for ray in rays]
+
+
+def shuffled(members):
+    """The members in no order."""
+    return random.Random(4).sample(members, len(members))
 
 
 def sun(nodes, members):
@@ -77,8 +82,9 @@ SHAPES = {
     "chain of 100,000": lambda: chain(100_000),
     "long chain of 2,000": lambda: long_chain(2_000, 1),
     "long chain, members apart": lambda: long_chain(2_000, 64),
-    "star of 100,000": lambda: star(100_000, 1),
-    "star, members apart": lambda: star(100_000, 64),
+    "star of 100,000": lambda: star(100_000, range(1, 100_000)),
+    "star, members apart": lambda: star(100_000, range(64, 6_400_000, 64)),
+    "star, apart, in no order": lambda: star(100_000, shuffled(range(64, 6_400_000, 64))),
     "sun of 10,000": lambda: sun(10_000, 1_000),
     "random, sparse": sparse,
     "random, grouped": grouped,

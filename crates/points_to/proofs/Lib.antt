@@ -2,6 +2,7 @@ pub mod Logic
 pub mod Words
 pub mod Ascending
 pub mod Members
+pub mod Lowest
 pub mod Merging
 pub mod Views
 pub mod Each
@@ -13,3 +14,4 @@ pub mod Links
 pub mod Demanding
 pub mod Lists
 pub mod Running
+pub mod Naming

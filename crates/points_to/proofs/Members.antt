@@ -3,8 +3,7 @@ use Rattle.std.proofs.Common.{◌≡◌, ℕ, zero, suc, ◌+◌, ◌*◌, ◌/�
 use Rattle.std.specs.List.{filter, range_with_len}
 use Rattle.std.specs.Int.{bit_at}
 use Rattle.std.proofs.lemmas.Bool.{cases_eq, cases_lt, or_cases, or_right, or_left, true≢false}
-use Rattle.std.proofs.lemmas.List.FromFn.{filter_of_map_range_with_len_more}
-use Rattle.std.proofs.lemmas.List.{append-nil, append_assoc, map-id, get_or_default, length-map, get_or-map}
+use Rattle.std.proofs.lemmas.List.{get_or_default, length-map, get_or-map}
 use Rattle.points_to.specs.declared.block.Block.{Block}
 use Rattle.points_to.specs.Sets.{has, AllFrom, AllBelow, IsAscending}
 use Rattle.points_to.specs.Blocks.{block_members, members, block_has, blocks_have, indexes}
@@ -211,19 +210,3 @@ no_block blocks up p index before after other k d l e = elim (cases_lt k p) [
     | inr past ↦ omega (arith, after p d (omega arith) (omega arith), index_order blocks up p k d d (omega arith) l, e)
   ]
 ]
-
--- ---- writing the numbers of a block
-
-range_more : (p : ℕ → Bool) (a n j : ℕ) → a + n ≡ j → filter p (range_with_len a (n + 1)) ≡ filter p (range_with_len a n) ++ cond (p j) (j ∷ []) []
-range_more p a n j e =
-    ap (filter p) (sym (map-id (range_with_len a (n + 1)))) ∙ filter_of_map_range_with_len_more p (λ (x : ℕ). x) a n j e
-    ∙ ap (λ xs. filter p xs ++ cond (p j) (j ∷ []) []) (map-id (range_with_len a n))
-
-pub written : (p : ℕ → Bool) (a n j : ℕ) (old now : List ℕ) → a + n ≡ j → p j ≡ true → now ≡ old ++ filter p (range_with_len a n) → now ++ j ∷ [] ≡ old ++ filter p (range_with_len a (n + 1))
-written p a n j old now e t h =
-    ap (λ xs. xs ++ j ∷ []) h ∙ append_assoc old (filter p (range_with_len a n)) (j ∷ [])
-    ∙ ap (λ xs. old ++ xs) (ap (λ s. filter p (range_with_len a n) ++ cond s (j ∷ []) []) (sym t) ∙ sym (range_more p a n j e))
-
-pub skipped : (p : ℕ → Bool) (a n j : ℕ) (old now : List ℕ) → a + n ≡ j → p j ≡ false → now ≡ old ++ filter p (range_with_len a n) → now ≡ old ++ filter p (range_with_len a (n + 1))
-skipped p a n j old now e t h =
-    h ∙ ap (λ xs. old ++ xs) (sym (append-nil (filter p (range_with_len a n))) ∙ ap (λ s. filter p (range_with_len a n) ++ cond s (j ∷ []) []) (sym t) ∙ sym (range_more p a n j e))

@@ -3,7 +3,7 @@ use Rattle.std.proofs.Common.{◌≡◌, ℕ, ◌+◌, ◌-◌, ◌*◌, ◌/◌
 use Rattle.std.specs.Int.{bit_at, bit_not, w64, trailing_zeros}
 use Rattle.std.proofs.lemmas.Nat.{one_shl, and_le_r}
 use Rattle.std.proofs.Math.Nat.{pos_of_ne-zero}
-use Rattle.std.proofs.lemmas.Nat.Bits.{shr_and_one, bit_at-lt, bit_at_or, bit_at_and, bit_at-pow_same, bit_at-pow_other, bit_at_not, bit_at-trailing_zeros, bit_at-zero}
+use Rattle.std.proofs.lemmas.Nat.Bits.{bit_at-lt, bit_at_or, bit_at_and, bit_at-pow_same, bit_at-pow_other, bit_at_not, bit_at-trailing_zeros, bit_at-zero}
 use Rattle.std.proofs.lemmas.Bool.{true≢false, cases_eq, and_parts, and_from, not-true}
 use Rattle.points_to.specs.declared.block.Block.{Block}
 use Rattle.points_to.specs.Blocks.{block_has}
@@ -100,12 +100,6 @@ uncovered b w h some =
       and_from (n / 64 == b.index) (bit_at b.bits (n % 64) == 1) (eq-eqb (n / 64) b.index index) (ap (λ i. bit_at b.bits i == 1) digit ∙ both.0),
       ap (λ i. bit_at w i == 1) digit ∙ not-true (bit_at w k == 1) both.1,
     )
-
--- the test of a bit by a shift
-pub shifted_test : (bits index place : ℕ) → place < 64 → (bit_and (bits / 2 ^ place) 1 == 1) ≡ (bit_at bits ((64 * index + place) % 64) == 1)
-shifted_test bits index place h =
-    let same : (64 * index + place) % 64 ≡ place = omega arith in
-    ap (λ x. x == 1) (shr_and_one bits place) ∙ ap (λ i. bit_at bits i == 1) (sym same)
 
 and_test : (s x y t : Bool) → (s ≡ true → t ≡ y) → (s && (x && not y)) ≡ ((s && x) && not t)
 and_test false x y t tie = refl

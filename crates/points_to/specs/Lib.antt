@@ -3,6 +3,7 @@ pub mod Blocks
 pub mod Families
 pub mod Rules
 pub mod Tests
+pub mod Named
 pub mod Fits
 pub mod Progress
 pub mod Readers

@@ -75,8 +75,7 @@ impl Bits {
         if blocks::covers(&self.blocks, &other.blocks) {
             return Ok(false);
         }
-        let alloc = *self.blocks.allocator();
-        self.blocks = blocks::merge(alloc, &self.blocks, &other.blocks)?;
+        blocks::put_all(&mut self.blocks, &other.blocks)?;
         Ok(true)
     }
 

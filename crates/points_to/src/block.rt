@@ -47,10 +47,11 @@ pub(crate) fn spell(block: Block, out: &mut Vec<u32>) -> Result<(), NoMemory>
     requires { block.index < 2 ^ 26 }
     ensures { OnOk result (out.new.items ≡ out.old.items ++ block_members block.index block.bits) }
 {
-    for place in 0..64 {
-        if block.bits >> place & 1 == 1 {
-            out.push(64 * block.index + place)?;
-        }
+    let mut rest = block.bits;
+    while rest != 0 {
+        let place = rest.trailing_zeros();
+        out.push(64 * block.index + place)?;
+        rest &= !(1 << place);
     }
     Ok(())
 }

@@ -1,5 +1,5 @@
 //! Lists of blocks in ascending order.
-ghost use Rattle.std.specs.Prelude.{◌≡◌, ℕ, ◌+◌, ◌-◌, ◌*◌, ◌/◌, ◌%◌, ◌^◌, ◌<◌, ◌≤◌, ◌==◌, ◌&&◌, ◌||◌, ◌++◌, ◌↔◌, IsTrue, length, not, false, true, slice_get, slice_index_or, IfOk, OnOk, OnErr, take, drop};
+ghost use Rattle.std.specs.Prelude.{◌≡◌, ℕ, ◌+◌, ◌-◌, ◌*◌, ◌/◌, ◌%◌, ◌^◌, ◌<◌, ◌≤◌, ◌==◌, ◌&&◌, ◌||◌, ◌++◌, ◌↔◌, IsTrue, length, not, false, true, slice_get, slice_index_or, vec_len, vec_capacity, IfOk, OnOk, OnErr, take, drop};
 ghost use Rattle.std.specs.Int.{bit_at};
 ghost use Rattle.points_to.specs.Blocks.{AreBlocks, IsMerged, block_has, blocks_have, members};
 
@@ -89,7 +89,7 @@ pub(crate) fn merge(alloc: Global, left: &[Block], right: &[Block]) -> Result<Ve
     ensures blocks { IfOk result (λ out. AreBlocks out.items) }
     ensures numbers { IfOk result (λ out. (n : ℕ) → blocks_have out.items n ≡ (blocks_have left.now n || blocks_have right.now n)) }
 {
-    let mut out = Vec::new(alloc);
+    let mut out = Vec::with_capacity(alloc, left.len())?;
     let mut i = 0;
     let mut j = 0;
     while i < left.len() && j < right.len() {
@@ -166,7 +166,28 @@ pub(crate) fn has(blocks: &[Block], number: u32) -> bool
     word(blocks, number / 64) >> (number % 64) & 1 == 1
 }
 
-/// Adds the numbers of a block.
+// Adds the numbers of a block where there is room for one more.
+fn put_reserved(blocks: &mut Vec<Block>, block: Block)
+    requires blocks { AreBlocks blocks.old.items }
+    requires index { block.index < 2 ^ 26 }
+    requires room { vec_len blocks.old < vec_capacity blocks.old }
+    ensures blocks { AreBlocks blocks.new.items }
+    ensures numbers { (n : ℕ) → blocks_have blocks.new.items n ≡ (blocks_have blocks.old.items n || block_has block n) }
+    ensures len { vec_len blocks.new ≤ vec_len blocks.old + 1 }
+    ensures capacity { vec_capacity blocks.new ≡ vec_capacity blocks.old }
+{
+    let at = place(blocks, block.index);
+    if at < blocks.len() && blocks[at].index == block.index {
+        blocks[at] = block::joined(blocks[at], block);
+        return;
+    }
+    match blocks.insert(at, block) {
+        Ok(()) => (),
+        Err(_) => unreachable!(),
+    }
+}
+
+/// Adds the numbers of a block. A new block moves those behind it.
 pub(crate) fn put(blocks: &mut Vec<Block>, block: Block) -> Result<(), NoMemory>
     requires blocks { AreBlocks blocks.old.items }
     requires index { block.index < 2 ^ 26 }
@@ -174,11 +195,67 @@ pub(crate) fn put(blocks: &mut Vec<Block>, block: Block) -> Result<(), NoMemory>
     ensures numbers { OnOk result ((n : ℕ) → blocks_have blocks.new.items n ≡ (blocks_have blocks.old.items n || block_has block n)) }
     ensures err { OnErr result (blocks.new.items ≡ blocks.old.items) }
 {
-    let at = place(blocks, block.index);
-    if at < blocks.len() && blocks[at].index == block.index {
-        blocks[at] = block::joined(blocks[at], block);
-        return Ok(());
+    blocks.reserve(1)?;
+    put_reserved(blocks, block);
+    Ok(())
+}
+
+// Adds the numbers of each block, at its place.
+fn put_each(blocks: &mut Vec<Block>, others: &[Block]) -> Result<(), NoMemory>
+    requires blocks { AreBlocks blocks.old.items }
+    requires others { AreBlocks others.now }
+    ensures blocks { AreBlocks blocks.new.items }
+    ensures numbers { OnOk result ((n : ℕ) → blocks_have blocks.new.items n ≡ (blocks_have blocks.old.items n || blocks_have others.now n)) }
+    ensures err { OnErr result (blocks.new.items ≡ blocks.old.items) }
+{
+    blocks.reserve(others.len())?;
+    for other in others {
+        put_reserved(blocks, *other);
     }
-    blocks.insert(at, block)?;
+    Ok(())
+}
+
+// As many new blocks move no more where each goes to its place than where all are written anew.
+const FEW: usize = 4;
+
+// Whether all blocks come behind the last of others.
+fn come_behind(blocks: &[Block], others: &[Block]) -> bool {
+    match (blocks.last(), others.first()) {
+        (Some(last), Some(first)) => last.index < first.index,
+        (Some(_), None) | (None, _) => true,
+    }
+}
+
+// Whether at most a few blocks have an index that the others have not.
+fn lack_few(blocks: &[Block], others: &[Block]) -> bool
+    requires { AreBlocks blocks.now }
+{
+    let mut lacking = 0;
+    for other in others {
+        let at = place(blocks, other.index);
+        if at == blocks.len() || blocks[at].index != other.index {
+            lacking += 1;
+        }
+        if lacking > FEW {
+            return false;
+        }
+    }
+    true
+}
+
+/// Adds the numbers of the others. Where few of their indexes are new, or all come behind the last, it costs a search for each and a
+/// move of what stands behind a new one; else a walk over both lists.
+pub(crate) fn put_all(blocks: &mut Vec<Block>, others: &[Block]) -> Result<(), NoMemory>
+    requires blocks { AreBlocks blocks.old.items }
+    requires others { AreBlocks others.now }
+    ensures blocks { AreBlocks blocks.new.items }
+    ensures numbers { OnOk result ((n : ℕ) → blocks_have blocks.new.items n ≡ (blocks_have blocks.old.items n || blocks_have others.now n)) }
+    ensures err { OnErr result (blocks.new.items ≡ blocks.old.items) }
+{
+    if others.len() < blocks.len() && (come_behind(blocks, others) || lack_few(blocks, others)) {
+        return put_each(blocks, others);
+    }
+    let alloc = *blocks.allocator();
+    *blocks = merge(alloc, blocks, others)?;
     Ok(())
 }

@@ -83,10 +83,12 @@ impl Progress {
         requires node { node < length self.old.done.items }
         ensures { OnOk result (IsMet (λ flows gets. gets node member) self.old self.new) }
     {
-        let alloc = *self.done.allocator();
-        let mut one = Bits::new(alloc);
+        if self.done[node].contains(member) {
+            return Ok(());
+        }
+        let mut one = Bits::new(*self.done.allocator());
         one.add(member)?;
-        self.add_all(node, &one)
+        self.put(node, &one)
     }
 
     /// Adds an edge, along which the members that the one node has handed on go to the other.

@@ -1,9 +1,10 @@
 //! The least family of sets that is closed under constraints.
-ghost use Rattle.std.specs.Prelude.{◌≡◌, ℕ, ◌<◌, true, length, slice_get, slice_index_or, Some, IfOk, OnOk};
+ghost use Rattle.std.specs.Prelude.{◌≡◌, ℕ, ◌<◌, Bool, true, length, slice_get, slice_index_or, Some, IfOk, OnOk};
 ghost use Rattle.core_ir.specs.Plain.{lists_of};
 ghost use Rattle.points_to.specs.declared.rule.Side.TheVariants as sides;
 ghost use Rattle.points_to.specs.Sets.{has, IsSet};
 ghost use Rattle.points_to.specs.Families.{Family, Has, family_of};
+ghost use Rattle.points_to.specs.Named.{NamesOnly};
 ghost use Rattle.points_to.specs.Rules.{IsClosed, rule_of};
 ghost use Rattle.points_to.specs.Tests.{Each};
 ghost use Rattle.points_to.specs.Fits.{Fits, IsConstraintWithin, has_source};
@@ -65,6 +66,9 @@ fn visit(
     ensures flowed { OnOk result (HandsOn node delta.now found.old found.new) }
 {
     found.hand_on(node, delta)?;
+    if targets.is_empty() && sources.is_empty() {
+        return Ok(());
+    }
     let alloc = *found.done.allocator();
     let members = delta.members(alloc)?;
     reacting::meet_targets(found, classes, targets, &members)?;
@@ -106,7 +110,7 @@ fn lists(alloc: Global, sets: &[Bits]) -> Result<Vec<Vec<u32>>, NoMemory>
 }
 
 /// The least family of sets, one for each node, that is closed under the constraints: each member of its sets is one of every closed
-/// family. It takes no member along an edge twice.
+/// family, and one that an address or a sub-object of the class table names. It takes no member along an edge twice.
 pub fn solve(
     alloc: Global,
     nodes: u32,
@@ -117,6 +121,7 @@ pub fn solve(
     ensures nodes { IfOk result (λ s. length s.sets.items ≡ nodes) }
     ensures closed { IfOk result (λ s. IsClosed classes.now all.now (family_of (lists_of s.sets.items))) }
     ensures least { IfOk result (λ s. (family : Family) → IsClosed classes.now all.now family → (node member : ℕ) → Has (family_of (lists_of s.sets.items)) node member → Has family node member) }
+    ensures members { IfOk result (λ s. (test : ℕ → Bool) → NamesOnly test classes.now all.now → (node member : ℕ) → Has (family_of (lists_of s.sets.items)) node member → test member ≡ true) }
     ensures sets { IfOk result (λ s. Each (lists_of s.sets.items) IsSet) }
 {
     let targets = readers(alloc, nodes, all, Side::Target)?;

@@ -7,6 +7,7 @@ use Rattle.points_to.specs.Tests.{Each}
 use Rattle.points_to.specs.Fits.{Fits}
 use Rattle.points_to.specs.Readers.{AreReaders, constraint_lists}
 use Rattle.points_to.proofs.Running.{targets_within, sources_within, start_stands, opened_size, opened_flowed, opened_ruled, opened_within, lists_length}
+use Rattle.points_to.proofs.Naming.{named_closed}
 use Rattle.points_to.proofs.solving.solve.Goals as goal
 
 pub readers-requires : goal.readers-requires
@@ -55,6 +56,12 @@ returns-clause-closed c =
 pub returns-clause-least : goal.returns-clause-least
 returns-clause-least c = λ family closed node member h.
     c.in_ok-run.ensures.within family closed (opened_within c.args.classes.now c.args.all.now c.args.nodes c.in_ok-found.found c.open_all.new.found c.in_ok-found.ensures c.in_ok-open_all.ensures family closed) node member
+    (subst (λ (sets : List (List ℕ)). Has (family_of sets) node member) (c.in_ok-sets.ensures.lists ∙ c.deref-3.ensures.value) h)
+
+pub returns-clause-members : goal.returns-clause-members
+returns-clause-members c = λ test named node member h.
+    c.in_ok-run.ensures.within (λ n m. test m) (named_closed test c.args.classes.now c.args.all.now named)
+    (opened_within c.args.classes.now c.args.all.now c.args.nodes c.in_ok-found.found c.open_all.new.found c.in_ok-found.ensures c.in_ok-open_all.ensures (λ n m. test m) (named_closed test c.args.classes.now c.args.all.now named)) node member
     (subst (λ (sets : List (List ℕ)). Has (family_of sets) node member) (c.in_ok-sets.ensures.lists ∙ c.deref-3.ensures.value) h)
 
 pub returns-clause-sets : goal.returns-clause-sets

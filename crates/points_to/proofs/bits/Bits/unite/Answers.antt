@@ -14,28 +14,24 @@ returns-then-covers-clause-members c = λ n.
 pub returns-then-covers-clause-set : goal.returns-then-covers-clause-set
 returns-then-covers-clause-set c = set_at c.self.inside.blocks.items c.args.self.now c.self.view_is c.self.invariant
 
-pub returns-in_err-self-inside-clause-set : goal.returns-in_err-self-inside-clause-set
-returns-in_err-self-inside-clause-set c = set_at c.self.inside.blocks.items c.args.self.now c.self.view_is c.self.invariant
+pub returns-in_err-put_all-clause-set : goal.returns-in_err-put_all-clause-set
+returns-in_err-put_all-clause-set c = set_of _ c.put_all.ensures.blocks
 
 pub returns-clause-members : goal.returns-clause-members
 returns-clause-members c = λ n.
     let old = c.self.inside.blocks.items in
-    let new = c.in_ok-self-inside.field-0.items in
-    added_at old new c.args.self.now (has c.args.other.now) c.self.view_is (λ m.
-    c.in_ok-self-inside.ensures.numbers m
-    ∙ ap (λ bs. blocks_have bs m || blocks_have c.deref-4.result.now m) c.deref-3.ensures.value
-    ∙ ap (λ bs. blocks_have old m || blocks_have bs m) c.deref-4.ensures.value
+    added_at old c.put_all.new.blocks.items c.args.self.now (has c.args.other.now) c.self.view_is (λ m.
+    c.in_ok-put_all.ensures.numbers m
+    ∙ ap (λ bs. blocks_have old m || blocks_have bs m) c.deref-3.ensures.value
     ∙ ap (λ s. blocks_have old m || s) (sym (has_at c.other.inside.blocks.items c.args.other.now c.other.view_is m))) n
 
 pub returns-clause-grew : goal.returns-clause-grew
 returns-clause-grew c =
     let old = c.self.inside.blocks.items in
-    let new = c.in_ok-self-inside.field-0.items in
     let r = c.covers.ensures.some c.if-covers.false in (
-      λ _. grew_at old new c.args.self.now (has c.args.other.now) r.0 c.self.view_is c.self.invariant c.in_ok-self-inside.ensures.blocks
-          (λ m. c.in_ok-self-inside.ensures.numbers m
-          ∙ ap (λ bs. blocks_have bs m || blocks_have c.deref-4.result.now m) c.deref-3.ensures.value
-          ∙ ap (λ bs. blocks_have old m || blocks_have bs m) c.deref-4.ensures.value
+      λ _. grew_at old c.put_all.new.blocks.items c.args.self.now (has c.args.other.now) r.0 c.self.view_is c.self.invariant c.put_all.ensures.blocks
+          (λ m. c.in_ok-put_all.ensures.numbers m
+          ∙ ap (λ bs. blocks_have old m || blocks_have bs m) c.deref-3.ensures.value
           ∙ ap (λ s. blocks_have old m || s) (sym (has_at c.other.inside.blocks.items c.args.other.now c.other.view_is m)))
           (ap (λ bs. blocks_have bs r.0) (sym c.deref.ensures.value) ∙ r.2)
           (has_at c.other.inside.blocks.items c.args.other.now c.other.view_is r.0 ∙ ap (λ bs. blocks_have bs r.0) (sym c.deref-2.ensures.value) ∙ r.1),
@@ -43,4 +39,4 @@ returns-clause-grew c =
     )
 
 pub returns-clause-set : goal.returns-clause-set
-returns-clause-set c = set_of _ c.in_ok-self-inside.ensures.blocks
+returns-clause-set c = set_of _ c.put_all.ensures.blocks

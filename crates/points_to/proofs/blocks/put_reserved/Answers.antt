@@ -3,8 +3,8 @@ use Rattle.std.proofs.lemmas.List.{get_or_default}
 use Rattle.points_to.specs.declared.block.Block.{Block}
 use Rattle.points_to.specs.Blocks.{block_has}
 use Rattle.points_to.proofs.Merging.{put_blocks, put_have, set_blocks, set_have}
-use Rattle.points_to.proofs.blocks.put.Goals as goal
-use Rattle.points_to.proofs.blocks.put.Goals.{else-at-len-via-then-at-len+else-index-block, else-at-len-via-else-at-len}
+use Rattle.points_to.proofs.blocks.put_reserved.Goals as goal
+use Rattle.points_to.proofs.blocks.put_reserved.Goals.{else-at-len-via-then-at-len+else-index-block, else-at-len-via-else-at-len}
 
 abbrev nothing : Block
 nothing = record { index = 0; bits = 0 }
@@ -21,7 +21,7 @@ returns-then-index-block-clause-numbers c = λ n.
 
 pub returns-clause-blocks : goal.returns-clause-blocks
 returns-clause-blocks c =
-    rw c.in_ok-insert.ensures.items
+    rw c.in-Ok.ensures.items
     (put_blocks c.args.blocks.now.items c.args.block c.place-at.result nothing c.requires.blocks c.requires.index
     (rw c.deref.ensures.value at c.place-at.ensures.before) (rw c.deref.ensures.value at c.place-at.ensures.after)
     (elim c.else-at-len.branch [
@@ -30,4 +30,4 @@ returns-clause-blocks c =
     ]))
 
 pub returns-clause-numbers : goal.returns-clause-numbers
-returns-clause-numbers c = λ n. rw c.in_ok-insert.ensures.items (put_have c.args.blocks.now.items c.args.block c.place-at.result n)
+returns-clause-numbers c = λ n. rw c.in-Ok.ensures.items (put_have c.args.blocks.now.items c.args.block c.place-at.result n)
