@@ -11,6 +11,7 @@ mod nesting;
 mod scopes;
 #[cfg(test)]
 mod tests;
+mod visible;
 
 pub use cursor::Cursor;
 pub use error::ReadError;
