@@ -5,8 +5,11 @@
 
 mod cursor;
 mod error;
+mod frame;
+mod frames;
 pub mod kinds;
 mod laws;
+mod loops;
 mod nesting;
 mod scopes;
 #[cfg(test)]
