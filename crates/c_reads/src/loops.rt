@@ -1,4 +1,4 @@
-ghost use Rattle.std.specs.Prelude.{◌≡◌, ◌+◌, ◌-◌, ◌||◌, nat_lt, IfErr, OnOk, OnErr};
+ghost use Rattle.std.specs.Prelude.{◌≡◌, ◌+◌, ◌-◌, ◌≤◌, ◌||◌, nat_lt, IfErr, OnOk, OnErr};
 ghost use Rattle.c_grammar.specs.State as state;
 
 use crate::error::ReadError;
@@ -30,11 +30,19 @@ impl Loops {
         }
     }
 
+    /// Whether the keyword of a thirteenth loop was read.
+    pub fn passed(&self) -> bool
+        ensures { result ≡ self.now.passed }
+    {
+        self.passed
+    }
+
     /// The keyword of a loop is read. A count that no memory could hold counts as want of memory.
     pub fn enter(&mut self) -> Result<(), ReadError>
         ensures ok { OnOk result (self.new ≡ record { around = self.old.around + 1; passed = self.old.passed || nat_lt 12 (self.old.around + 1) }) }
         ensures err { IfErr result (λ e. e ≡ ReadError.NoMemory) }
-        ensures same { OnErr result (self.new ≡ self.old) }
+        ensures full { OnErr result (usize.MAX ≤ self.old.around) }
+        ensures stays { OnErr result (self.new ≡ self.old) }
     {
         let Some(around) = self.around.checked_add(1) else {
             return Err(ReadError::NoMemory);

@@ -57,6 +57,13 @@ pub fn is_unary(kind: &LexemeKind) -> bool
     }
 }
 
+/// Whether it is an assignment operator (6.5.16).
+pub fn is_assignment(kind: &LexemeKind) -> bool
+    ensures { result ≡ is_some (found_for assignment_operators kind.now) }
+{
+    assigned_by(kind).is_some()
+}
+
 /// Of an assignment operator (6.5.16), what a compound one applies.
 pub fn assigned_by(kind: &LexemeKind) -> Option<Option<Op>>
     ensures { result ≡ found_for assignment_operators kind.now }
