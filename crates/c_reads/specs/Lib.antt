@@ -1,3 +1,4 @@
 pub mod Exact
+pub mod Log
 pub mod Parsers
 pub mod Postfix

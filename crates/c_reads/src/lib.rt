@@ -5,12 +5,18 @@
 
 mod cursor;
 mod error;
+mod frame;
+mod frames;
+pub mod keywords;
 pub mod kinds;
 mod laws;
+mod loops;
 mod nesting;
+pub mod operators;
 mod scopes;
 #[cfg(test)]
 mod tests;
+mod visible;
 
 pub use cursor::Cursor;
 pub use error::ReadError;
