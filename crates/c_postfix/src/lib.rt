@@ -1,0 +1,11 @@
+//! Primary and postfix expressions (ISO/IEC 9899:1999, 6.5.1, 6.5.2), read over two functions that read the expressions inside.
+#![tactic(auto)]
+
+mod inner;
+mod nodes;
+mod postfix;
+mod primary;
+#[cfg(test)]
+mod tests;
+
+pub use inner::{Inner, Postfix};
