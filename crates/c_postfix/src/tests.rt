@@ -109,11 +109,10 @@ fn put_start(out: &mut String, tree: &Expr) -> Result<(), AllocError> {
 }
 
 /// A node with parts, up to its operand.
-fn put_node(out: &mut String, word: &str, tree: &Expr, of: &Expr) -> Result<(), AllocError> {
+fn put_head(out: &mut String, word: &str, tree: &Expr) -> Result<(), AllocError> {
     write!(out, "({word}")?;
     put_start(out, tree)?;
-    out.push_str(" ")?;
-    put_tree(out, of)
+    out.push(' ')
 }
 
 fn put_text(out: &mut String, bytes: &[u8]) -> Result<(), AllocError> {
@@ -145,13 +144,15 @@ fn put_tree(out: &mut String, tree: &Expr) -> Result<(), AllocError> {
             put_start(out, tree)
         }
         ExprKind::Index(left, inside) => {
-            put_node(out, "index", tree, left.get())?;
+            put_head(out, "index", tree)?;
+            put_tree(out, left.get())?;
             out.push(' ')?;
             put_tree(out, inside.get())?;
             out.push(')')
         }
         ExprKind::Call(callee, arguments) => {
-            put_node(out, "call", tree, callee.get())?;
+            put_head(out, "call", tree)?;
+            put_tree(out, callee.get())?;
             for argument in arguments.as_slice() {
                 out.push(' ')?;
                 put_tree(out, argument)?;
@@ -159,19 +160,22 @@ fn put_tree(out: &mut String, tree: &Expr) -> Result<(), AllocError> {
             out.push(')')
         }
         ExprKind::Member(left, name) => {
-            put_node(out, "member", tree, left.get())?;
+            put_head(out, "member", tree)?;
+            put_tree(out, left.get())?;
             out.push(' ')?;
             put_name(out, *name)?;
             out.push(')')
         }
         ExprKind::Arrow(left, name) => {
-            put_node(out, "arrow", tree, left.get())?;
+            put_head(out, "arrow", tree)?;
+            put_tree(out, left.get())?;
             out.push(' ')?;
             put_name(out, *name)?;
             out.push(')')
         }
         ExprKind::Bump { up, of, .. } => {
-            put_node(out, if *up { "++" } else { "--" }, tree, of.get())?;
+            put_head(out, if *up { "++" } else { "--" }, tree)?;
+            put_tree(out, of.get())?;
             out.push(')')
         }
         _ => out.push('?'),
@@ -190,9 +194,9 @@ fn single(_alloc: Global, _depth: usize, cursor: &mut Cursor<'_>) -> Result<Expr
 }
 
 #[derive(Clone, Copy)]
-struct Single;
+struct NamesAndNumbers;
 
-impl Inner for Single {
+impl Inner for NamesAndNumbers {
     ghost inside = { λ depth. on w.number (spec.constant w.number) spec.name };
 
     ghost argument = { λ depth. on w.number (spec.constant w.number) spec.name };
@@ -218,7 +222,7 @@ fn put_read(
 fn read(alloc: Global, row: &str) -> Result<String, Fail> {
     let tokens = lexemes(alloc, row)?;
     let mut cursor = Cursor::new(alloc, tokens.as_slice()).map_err(|_| AllocError)?;
-    let parser = Postfix::<Single, _, _> {
+    let parser = Postfix::<NamesAndNumbers, _, _> {
         alloc,
         depth: 0,
         inside: single,
