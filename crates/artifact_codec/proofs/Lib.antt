@@ -11,3 +11,4 @@ pub mod Whole
 pub mod Marks
 pub mod Once
 pub mod Advance
+pub mod Fitting

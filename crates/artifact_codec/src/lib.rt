@@ -20,5 +20,8 @@ mod writing_summary;
 
 pub use decoding::decode;
 pub use encoding::encode;
-pub use laws::{no_spelling_begins_another, six_is_no_spelling, spellings_are_unique};
+pub use laws::{
+    artifacts_that_fit_meet_the_demands, clusters_that_fit_meet_the_demands,
+    no_spelling_begins_another, six_is_no_spelling, spellings_are_unique,
+};
 pub use spelled::spells;
