@@ -1,9 +1,9 @@
 //! The place of a parser: the tokens that are left, and the state that decides which may come next.
 
-ghost use Rattle.std.specs.Prelude.{◌≡◌, ◌≤◌, IfOk, IfErr, OnOk, OnErr, length};
+ghost use Rattle.std.specs.Prelude.{◌≡◌, ◌≢◌, ◌≤◌, Ok, Err, IfOk, IfErr, IsErrOf, OnOk, OnErr, length};
 ghost use Rattle.c_grammar.specs.State as state;
 ghost use Rattle.c_grammar.specs.Terminals as w;
-ghost use Rattle.c_reads.specs.Parsers.{turns};
+ghost use Rattle.c_reads.specs.Parsers.{sees, take, turns};
 
 mod names;
 mod nodes;
@@ -88,7 +88,43 @@ impl<'a> Cursor<'a> {
         self.nesting.read();
     }
 
-    // The same of an operator behind its operand.
+    // Reads the next token if it fits: then a terminal that fits it too takes it, up to what the terminal changes beside.
+    #[tactic(auto, unfolding(crate::specs::Parsers::take))]
+    fn take_if(&mut self, fits: bool) -> Result<&'a Lexeme, ReadError>
+        ensures takes { (terminal : w.Terminal) → fits ≡ sees terminal self.old → IfOk result (λ token. take terminal self.old ≡ Ok (token.now, record { state = terminal.after self.old.state token.now; rest = self.new.rest })) }
+        ensures reads { OnOk result (self.new.state ≡ state.read self.old.state) }
+        ensures refuses { (terminal : w.Terminal) → fits ≡ sees terminal self.old → IfErr result (λ e. take terminal self.old ≡ Err e) }
+        ensures needs_no_memory { IfErr result (λ e. e ≢ ReadError.NoMemory) }
+        ensures stays { OnErr result (self.new ≡ self.old) }
+    {
+        match self.rest {
+            [token, rest @ ..] if fits => {
+                self.pass(rest);
+                Ok(token)
+            }
+            _ => Err(self.refuse()),
+        }
+    }
+
+    // The same of an operator behind its operand, which becomes one deeper.
+    #[tactic(auto, unfolding(crate::specs::Parsers::take))]
+    fn take_operator_if(&mut self, fits: bool) -> Result<&'a Lexeme, ReadError>
+        ensures takes { (terminal : w.Terminal) → fits ≡ sees terminal self.old → IfOk result (λ token. take terminal self.old ≡ Ok (token.now, record { state = terminal.after self.old.state token.now; rest = self.new.rest })) }
+        ensures reads { OnOk result (self.new.state ≡ state.deepen (state.read self.old.state)) }
+        ensures refuses { (terminal : w.Terminal) → fits ≡ sees terminal self.old → IfErr result (λ e. e ≢ ReadError.NoMemory → take terminal self.old ≡ Err e) }
+        ensures full { IsErrOf result ReadError.NoMemory → usize.MAX ≤ state.top (state.read self.old.state).nesting.deepest }
+        ensures stays { OnErr result (self.new ≡ self.old) }
+    {
+        match self.rest {
+            [token, rest @ ..] if fits => {
+                self.pass_operator(rest)?;
+                Ok(token)
+            }
+            _ => Err(self.refuse()),
+        }
+    }
+
+    // An operator behind its operand is read, up to `rest`.
     fn pass_operator(&mut self, rest: &'a [Lexeme]) -> Result<(), ReadError>
         ensures passes { OnOk result (self.new ≡ record { state = state.deepen (state.read self.old.state); rest = rest.now }) }
         ensures full { OnErr result (usize.MAX ≤ state.top (state.read self.old.state).nesting.deepest) }

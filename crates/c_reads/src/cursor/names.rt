@@ -34,54 +34,39 @@ impl<'a> Cursor<'a> {
     }
 
     /// The name that is declared.
-    #[tactic(auto, unfolding(crate::specs::Parsers::take))]
     pub fn take_declared_name(&mut self) -> Result<&'a Lexeme, ReadError>
         ensures takes { Takes (take w.declared_name self.old) result self.new }
         ensures needs_no_memory { IfErr result (λ e. e ≢ ReadError.NoMemory) }
         ensures stays { OnErr result (self.new ≡ self.old) }
     {
-        match self.rest {
-            [token, rest @ ..] if self.is_declared_name(token) => {
-                self.pass(rest);
-                self.frames.hold(name_in(&token.kind));
-                Ok(token)
-            }
-            _ => Err(self.refuse()),
-        }
+        let fits = self.sees_declared_name();
+        let token = self.take_if(fits)?;
+        self.frames.hold(name_in(&token.kind));
+        Ok(token)
     }
 
     /// The name that is declared, directly behind a `(` in a parameter's declarator.
-    #[tactic(auto, unfolding(crate::specs::Parsers::take))]
     pub fn take_grouped_name(&mut self) -> Result<&'a Lexeme, ReadError>
         ensures takes { Takes (take w.grouped_name self.old) result self.new }
         ensures needs_no_memory { IfErr result (λ e. e ≢ ReadError.NoMemory) }
         ensures stays { OnErr result (self.new ≡ self.old) }
     {
-        match self.rest {
-            [token, rest @ ..] if self.is_value(token) => {
-                self.pass(rest);
-                self.frames.hold(name_in(&token.kind));
-                Ok(token)
-            }
-            _ => Err(self.refuse()),
-        }
+        let fits = self.sees_grouped_name();
+        let token = self.take_if(fits)?;
+        self.frames.hold(name_in(&token.kind));
+        Ok(token)
     }
 
     /// The name of an enumeration constant.
-    #[tactic(auto, unfolding(crate::specs::Parsers::take))]
     pub fn take_enumerator_name(&mut self) -> Result<&'a Lexeme, ReadError>
         ensures takes { Takes (take w.enumerator_name self.old) result self.new }
         ensures needs_no_memory { IfErr result (λ e. e ≢ ReadError.NoMemory) }
         ensures stays { OnErr result (self.new ≡ self.old) }
     {
-        match self.rest {
-            [token, rest @ ..] if is_name(&token.kind) => {
-                self.pass(rest);
-                self.frames.hold(name_in(&token.kind));
-                Ok(token)
-            }
-            _ => Err(self.refuse()),
-        }
+        let fits = self.sees_enumerator_name();
+        let token = self.take_if(fits)?;
+        self.frames.hold(name_in(&token.kind));
+        Ok(token)
     }
 
     // Whether it is a name that may be declared here.

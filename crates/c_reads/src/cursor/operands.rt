@@ -7,7 +7,7 @@ ghost use Rattle.c_reads.specs.Postfix.{begins_operator};
 
 use super::Cursor;
 use crate::error::ReadError;
-use crate::kinds::{is_bump, is_character, is_name, is_number, is_postfix, is_text};
+use crate::kinds::{is_character, is_number, is_postfix, is_text};
 use c_tree::Lexeme;
 
 impl<'a> Cursor<'a> {
@@ -62,104 +62,74 @@ impl<'a> Cursor<'a> {
     }
 
     /// `++` or `--` behind its operand, which becomes one deeper.
-    #[tactic(auto, unfolding(crate::specs::Parsers::take))]
     pub fn take_bump(&mut self) -> Result<&'a Lexeme, ReadError>
         ensures takes { Takes (take (w.closing (w.operator w.bump)) self.old) result self.new }
         ensures full { IsErrOf result ReadError.NoMemory → usize.MAX ≤ state.top (state.read self.old.state).nesting.deepest }
         ensures stays { OnErr result (self.new ≡ self.old) }
     {
-        match self.rest {
-            [token, rest @ ..] if is_bump(&token.kind) => {
-                self.pass_operator(rest)?;
-                self.unary = true;
-                Ok(token)
-            }
-            _ => Err(self.refuse()),
-        }
+        let fits = self.sees_bump();
+        let token = self.take_operator_if(fits)?;
+        self.unary = true;
+        Ok(token)
     }
 
     /// Any name, as that of a member, with which a unary expression ends.
-    #[tactic(auto, unfolding(crate::specs::Parsers::take))]
     pub fn take_any_name(&mut self) -> Result<&'a Lexeme, ReadError>
         ensures takes { Takes (take (w.closing w.any_name) self.old) result self.new }
         ensures needs_no_memory { IfErr result (λ e. e ≢ ReadError.NoMemory) }
         ensures stays { OnErr result (self.new ≡ self.old) }
     {
-        match self.rest {
-            [token, rest @ ..] if is_name(&token.kind) => {
-                self.pass(rest);
-                self.unary = true;
-                Ok(token)
-            }
-            _ => Err(self.refuse()),
-        }
+        let fits = self.sees_any_name();
+        let token = self.take_if(fits)?;
+        self.unary = true;
+        Ok(token)
     }
 
     /// A name that is no typedef name, as an expression.
-    #[tactic(auto, unfolding(crate::specs::Parsers::take))]
     pub fn take_value_name(&mut self) -> Result<&'a Lexeme, ReadError>
         ensures takes { Takes (take w.value_name self.old) result self.new }
         ensures needs_no_memory { IfErr result (λ e. e ≢ ReadError.NoMemory) }
         ensures stays { OnErr result (self.new ≡ self.old) }
     {
-        match self.rest {
-            [token, rest @ ..] if self.is_value(token) => {
-                self.pass(rest);
-                self.unary = true;
-                Ok(token)
-            }
-            _ => Err(self.refuse()),
-        }
+        let fits = self.sees_value_name();
+        let token = self.take_if(fits)?;
+        self.unary = true;
+        Ok(token)
     }
 
     /// An integer constant.
-    #[tactic(auto, unfolding(crate::specs::Parsers::take))]
     pub fn take_number(&mut self) -> Result<&'a Lexeme, ReadError>
         ensures takes { Takes (take w.number self.old) result self.new }
         ensures needs_no_memory { IfErr result (λ e. e ≢ ReadError.NoMemory) }
         ensures stays { OnErr result (self.new ≡ self.old) }
     {
-        match self.rest {
-            [token, rest @ ..] if is_number(&token.kind) => {
-                self.pass(rest);
-                self.unary = true;
-                Ok(token)
-            }
-            _ => Err(self.refuse()),
-        }
+        let fits = self.sees_number();
+        let token = self.take_if(fits)?;
+        self.unary = true;
+        Ok(token)
     }
 
     /// A character constant.
-    #[tactic(auto, unfolding(crate::specs::Parsers::take))]
     pub fn take_character(&mut self) -> Result<&'a Lexeme, ReadError>
         ensures takes { Takes (take w.character self.old) result self.new }
         ensures needs_no_memory { IfErr result (λ e. e ≢ ReadError.NoMemory) }
         ensures stays { OnErr result (self.new ≡ self.old) }
     {
-        match self.rest {
-            [token, rest @ ..] if is_character(&token.kind) => {
-                self.pass(rest);
-                self.unary = true;
-                Ok(token)
-            }
-            _ => Err(self.refuse()),
-        }
+        let fits = self.sees_character();
+        let token = self.take_if(fits)?;
+        self.unary = true;
+        Ok(token)
     }
 
     /// A string literal.
-    #[tactic(auto, unfolding(crate::specs::Parsers::take))]
     pub fn take_text(&mut self) -> Result<&'a Lexeme, ReadError>
         ensures takes { Takes (take w.text self.old) result self.new }
         ensures needs_no_memory { IfErr result (λ e. e ≢ ReadError.NoMemory) }
         ensures stays { OnErr result (self.new ≡ self.old) }
     {
-        match self.rest {
-            [token, rest @ ..] if is_text(&token.kind) => {
-                self.pass(rest);
-                self.unary = true;
-                Ok(token)
-            }
-            _ => Err(self.refuse()),
-        }
+        let fits = self.sees_text();
+        let token = self.take_if(fits)?;
+        self.unary = true;
+        Ok(token)
     }
 }

@@ -52,67 +52,43 @@ impl<'a> Cursor<'a> {
     }
 
     /// `++` or `--` before its operand.
-    #[tactic(auto, unfolding(crate::specs::Parsers::take))]
     pub fn take_bump_before(&mut self) -> Result<&'a Lexeme, ReadError>
         ensures takes { Takes (take w.bump self.old) result self.new }
         ensures needs_no_memory { IfErr result (λ e. e ≢ ReadError.NoMemory) }
         ensures stays { OnErr result (self.new ≡ self.old) }
     {
-        match self.rest {
-            [token, rest @ ..] if is_bump(&token.kind) => {
-                self.pass(rest);
-                Ok(token)
-            }
-            _ => Err(self.refuse()),
-        }
+        let fits = self.sees_bump();
+        self.take_if(fits)
     }
 
     /// A unary operator other than `++`, `--` and `sizeof`.
-    #[tactic(auto, unfolding(crate::specs::Parsers::take))]
     pub fn take_unary_operator(&mut self) -> Result<&'a Lexeme, ReadError>
         ensures takes { Takes (take w.unary_operator self.old) result self.new }
         ensures needs_no_memory { IfErr result (λ e. e ≢ ReadError.NoMemory) }
         ensures stays { OnErr result (self.new ≡ self.old) }
     {
-        match self.rest {
-            [token, rest @ ..] if is_unary(&token.kind) => {
-                self.pass(rest);
-                Ok(token)
-            }
-            _ => Err(self.refuse()),
-        }
+        let fits = self.sees_unary_operator();
+        self.take_if(fits)
     }
 
     /// A binary operator of the level behind its operand, which becomes one deeper.
-    #[tactic(auto, unfolding(crate::specs::Parsers::take))]
     pub fn take_binary_operator(&mut self, level: u8) -> Result<&'a Lexeme, ReadError>
         ensures takes { Takes (take (w.binary_operator level) self.old) result self.new }
         ensures full { IsErrOf result ReadError.NoMemory → usize.MAX ≤ state.top (state.read self.old.state).nesting.deepest }
         ensures stays { OnErr result (self.new ≡ self.old) }
     {
-        match self.rest {
-            [token, rest @ ..] if is_binary(level, &token.kind) => {
-                self.pass_operator(rest)?;
-                Ok(token)
-            }
-            _ => Err(self.refuse()),
-        }
+        let fits = self.sees_binary_operator(level);
+        self.take_operator_if(fits)
     }
 
     /// An assignment operator behind a unary expression, which becomes one deeper.
-    #[tactic(auto, unfolding(crate::specs::Parsers::take))]
     pub fn take_assignment_operator(&mut self) -> Result<&'a Lexeme, ReadError>
         ensures takes { Takes (take w.assignment_operator self.old) result self.new }
         ensures full { IsErrOf result ReadError.NoMemory → usize.MAX ≤ state.top (state.read self.old.state).nesting.deepest }
         ensures stays { OnErr result (self.new ≡ self.old) }
     {
-        match self.rest {
-            [token, rest @ ..] if self.unary && is_assignment(&token.kind) => {
-                self.pass_operator(rest)?;
-                Ok(token)
-            }
-            _ => Err(self.refuse()),
-        }
+        let fits = self.sees_assignment_operator();
+        self.take_operator_if(fits)
     }
 
     /// What was read last is a unary expression.

@@ -5,7 +5,7 @@ ghost use Rattle.c_reads.specs.Parsers.{sees, take, Takes};
 
 use super::Cursor;
 use crate::error::ReadError;
-use crate::keywords::{is_plain_specifier, is_qualifier, is_record_word, is_type_word, is_word};
+use crate::keywords::{is_plain_specifier, is_qualifier, is_record_word, is_type_word};
 use crate::kinds::{is_name, name_in};
 use c_syntax::words;
 use c_tree::Lexeme;
@@ -76,120 +76,83 @@ impl<'a> Cursor<'a> {
     }
 
     /// `typedef`.
-    #[tactic(auto, unfolding(crate::specs::Parsers::take))]
     pub fn take_typedef(&mut self) -> Result<&'a Lexeme, ReadError>
         ensures takes { Takes (take w.typedef self.old) result self.new }
         ensures needs_no_memory { IfErr result (λ e. e ≢ ReadError.NoMemory) }
         ensures stays { OnErr result (self.new ≡ self.old) }
     {
-        match self.rest {
-            [token, rest @ ..] if is_word(words::TYPEDEF, &token.kind) => {
-                self.pass(rest);
-                self.frames.see_typedef();
-                Ok(token)
-            }
-            _ => Err(self.refuse()),
-        }
+        let fits = self.sees_typedef();
+        let token = self.take_if(fits)?;
+        self.frames.see_typedef();
+        Ok(token)
     }
 
     /// Another storage class, a qualifier or `inline`.
-    #[tactic(auto, unfolding(crate::specs::Parsers::take))]
     pub fn take_plain_specifier(&mut self) -> Result<&'a Lexeme, ReadError>
         ensures takes { Takes (take w.plain_specifier self.old) result self.new }
         ensures needs_no_memory { IfErr result (λ e. e ≢ ReadError.NoMemory) }
         ensures stays { OnErr result (self.new ≡ self.old) }
     {
-        match self.rest {
-            [token, rest @ ..] if is_plain_specifier(&token.kind) => {
-                self.pass(rest);
-                Ok(token)
-            }
-            _ => Err(self.refuse()),
-        }
+        let fits = self.sees_plain_specifier();
+        self.take_if(fits)
     }
 
     /// A word of a basic type.
-    #[tactic(auto, unfolding(crate::specs::Parsers::take))]
     pub fn take_type_word(&mut self) -> Result<&'a Lexeme, ReadError>
         ensures takes { Takes (take w.type_word self.old) result self.new }
         ensures needs_no_memory { IfErr result (λ e. e ≢ ReadError.NoMemory) }
         ensures stays { OnErr result (self.new ≡ self.old) }
     {
-        match self.rest {
-            [token, rest @ ..] if is_type_word(&token.kind) => {
-                self.pass(rest);
-                self.frames.see_type();
-                Ok(token)
-            }
-            _ => Err(self.refuse()),
-        }
+        let fits = self.sees_type_word();
+        let token = self.take_if(fits)?;
+        self.frames.see_type();
+        Ok(token)
     }
 
     /// `struct` or `union`.
-    #[tactic(auto, unfolding(crate::specs::Parsers::take))]
     pub fn take_record_word(&mut self) -> Result<&'a Lexeme, ReadError>
         ensures takes { Takes (take w.record_word self.old) result self.new }
         ensures needs_no_memory { IfErr result (λ e. e ≢ ReadError.NoMemory) }
         ensures stays { OnErr result (self.new ≡ self.old) }
     {
-        match self.rest {
-            [token, rest @ ..] if is_record_word(&token.kind) => {
-                self.pass(rest);
-                self.frames.see_type();
-                Ok(token)
-            }
-            _ => Err(self.refuse()),
-        }
+        let fits = self.sees_record_word();
+        let token = self.take_if(fits)?;
+        self.frames.see_type();
+        Ok(token)
     }
 
     /// `enum`.
-    #[tactic(auto, unfolding(crate::specs::Parsers::take))]
     pub fn take_enumeration_word(&mut self) -> Result<&'a Lexeme, ReadError>
         ensures takes { Takes (take w.enumeration_word self.old) result self.new }
         ensures needs_no_memory { IfErr result (λ e. e ≢ ReadError.NoMemory) }
         ensures stays { OnErr result (self.new ≡ self.old) }
     {
-        match self.rest {
-            [token, rest @ ..] if is_word(words::ENUM, &token.kind) => {
-                self.pass(rest);
-                self.frames.see_type();
-                Ok(token)
-            }
-            _ => Err(self.refuse()),
-        }
+        let fits = self.sees_enumeration_word();
+        let token = self.take_if(fits)?;
+        self.frames.see_type();
+        Ok(token)
     }
 
     /// A typedef name as a type word.
-    #[tactic(auto, unfolding(crate::specs::Parsers::take))]
     pub fn take_typedef_name(&mut self) -> Result<&'a Lexeme, ReadError>
         ensures takes { Takes (take w.typedef_name self.old) result self.new }
         ensures needs_no_memory { IfErr result (λ e. e ≢ ReadError.NoMemory) }
         ensures stays { OnErr result (self.new ≡ self.old) }
     {
-        match self.rest {
-            [token, rest @ ..] if self.is_typedef_name(token) => {
-                self.pass(rest);
-                self.frames.see_type();
-                Ok(token)
-            }
-            _ => Err(self.refuse()),
-        }
+        let fits = self.sees_typedef_name();
+        let token = self.take_if(fits)?;
+        self.frames.see_type();
+        Ok(token)
     }
 
     /// A qualifier.
-    #[tactic(auto, unfolding(crate::specs::Parsers::take))]
     pub fn take_qualifier(&mut self) -> Result<&'a Lexeme, ReadError>
         ensures takes { Takes (take w.qualifier self.old) result self.new }
         ensures needs_no_memory { IfErr result (λ e. e ≢ ReadError.NoMemory) }
         ensures stays { OnErr result (self.new ≡ self.old) }
     {
-        match self.rest {
-            [token, rest @ ..] if is_qualifier(&token.kind) => {
-                self.pass(rest);
-                Ok(token)
-            }
-            _ => Err(self.refuse()),
-        }
+        let fits = self.sees_qualifier();
+        self.take_if(fits)
     }
 
     // Whether it is a typedef name as a type word.

@@ -26,19 +26,13 @@ impl<'a> Cursor<'a> {
     }
 
     /// An `else`, which belongs to the nearest `if`.
-    #[tactic(auto, unfolding(crate::specs::Parsers::take))]
     pub fn take_else(&mut self) -> Result<&'a Lexeme, ReadError>
         ensures takes { Takes (take w.else self.old) result self.new }
         ensures needs_no_memory { IfErr result (λ e. e ≢ ReadError.NoMemory) }
         ensures stays { OnErr result (self.new ≡ self.old) }
     {
-        match self.rest {
-            [token, rest @ ..] if is_word(words::ELSE, &token.kind) && !self.dangling => {
-                self.pass(rest);
-                Ok(token)
-            }
-            _ => Err(self.refuse()),
-        }
+        let fits = self.sees_else();
+        self.take_if(fits)
     }
 
     /// The keyword of a loop, which opens. A count of loops that no memory could hold counts as want of memory.

@@ -60,100 +60,65 @@ impl<'a> Cursor<'a> {
     }
 
     /// The punctuator, as no end of an expression.
-    #[tactic(auto, unfolding(crate::specs::Parsers::take))]
     pub fn take_mark(&mut self, mark: u8) -> Result<&'a Lexeme, ReadError>
         ensures takes { Takes (take (w.mark mark) self.old) result self.new }
         ensures needs_no_memory { IfErr result (λ e. e ≢ ReadError.NoMemory) }
         ensures stays { OnErr result (self.new ≡ self.old) }
     {
-        match self.rest {
-            [token, rest @ ..] if is_mark(mark, &token.kind) => {
-                self.pass(rest);
-                Ok(token)
-            }
-            _ => Err(self.refuse()),
-        }
+        let fits = self.sees_mark(mark);
+        self.take_if(fits)
     }
 
     /// The punctuator that ends a unary expression.
-    #[tactic(auto, unfolding(crate::specs::Parsers::take))]
     pub fn take_closing(&mut self, mark: u8) -> Result<&'a Lexeme, ReadError>
         ensures takes { Takes (take (w.closing (w.mark mark)) self.old) result self.new }
         ensures needs_no_memory { IfErr result (λ e. e ≢ ReadError.NoMemory) }
         ensures stays { OnErr result (self.new ≡ self.old) }
     {
-        match self.rest {
-            [token, rest @ ..] if is_mark(mark, &token.kind) => {
-                self.pass(rest);
-                self.unary = true;
-                Ok(token)
-            }
-            _ => Err(self.refuse()),
-        }
+        let fits = self.sees_mark(mark);
+        let token = self.take_if(fits)?;
+        self.unary = true;
+        Ok(token)
     }
 
     /// The punctuator as an operator behind its operand, which becomes one deeper. A depth that no memory could hold counts as want
     /// of memory.
-    #[tactic(auto, unfolding(crate::specs::Parsers::take))]
     pub fn take_operator(&mut self, mark: u8) -> Result<&'a Lexeme, ReadError>
         ensures takes { Takes (take (w.operator (w.mark mark)) self.old) result self.new }
         ensures full { IsErrOf result ReadError.NoMemory → usize.MAX ≤ state.top (state.read self.old.state).nesting.deepest }
         ensures stays { OnErr result (self.new ≡ self.old) }
     {
-        match self.rest {
-            [token, rest @ ..] if is_mark(mark, &token.kind) => {
-                self.pass_operator(rest)?;
-                Ok(token)
-            }
-            _ => Err(self.refuse()),
-        }
+        let fits = self.sees_mark(mark);
+        self.take_operator_if(fits)
     }
 
     /// The keyword.
-    #[tactic(auto, unfolding(crate::specs::Parsers::take))]
     pub fn take_word(&mut self, word: u8) -> Result<&'a Lexeme, ReadError>
         ensures takes { Takes (take (w.word word) self.old) result self.new }
         ensures needs_no_memory { IfErr result (λ e. e ≢ ReadError.NoMemory) }
         ensures stays { OnErr result (self.new ≡ self.old) }
     {
-        match self.rest {
-            [token, rest @ ..] if is_word(word, &token.kind) => {
-                self.pass(rest);
-                Ok(token)
-            }
-            _ => Err(self.refuse()),
-        }
+        let fits = self.sees_word(word);
+        self.take_if(fits)
     }
 
     /// Any name, as a tag or the member of a designator, which is no end of an expression.
-    #[tactic(auto, unfolding(crate::specs::Parsers::take))]
     pub fn take_tag(&mut self) -> Result<&'a Lexeme, ReadError>
         ensures takes { Takes (take w.any_name self.old) result self.new }
         ensures needs_no_memory { IfErr result (λ e. e ≢ ReadError.NoMemory) }
         ensures stays { OnErr result (self.new ≡ self.old) }
     {
-        match self.rest {
-            [token, rest @ ..] if is_name(&token.kind) => {
-                self.pass(rest);
-                Ok(token)
-            }
-            _ => Err(self.refuse()),
-        }
+        let fits = self.sees_any_name();
+        self.take_if(fits)
     }
 
     /// The end of the file.
-    #[tactic(auto, unfolding(crate::specs::Parsers::take))]
     pub fn take_end(&mut self) -> Result<&'a Lexeme, ReadError>
         ensures takes { Takes (take w.end self.old) result self.new }
         ensures needs_no_memory { IfErr result (λ e. e ≢ ReadError.NoMemory) }
         ensures stays { OnErr result (self.new ≡ self.old) }
     {
-        match self.rest {
-            [token, rest @ ..] if is_end(&token.kind) => {
-                self.pass(rest);
-                Ok(token)
-            }
-            _ => Err(self.refuse()),
-        }
+        let fits = self.sees_end();
+        self.take_if(fits)
     }
 }
