@@ -5,10 +5,10 @@ Prints seconds and peak memory of both and their ratio. Without gcc, surveyor al
 usage: bench/first_form.py [BYTES]
 """
 import os
-import shutil
 import sys
 import tempfile
-import time
+
+from beside_gcc import SOURCE, gcc, measure, write
 
 TOP = os.path.dirname(os.path.dirname(os.path.abspath(__file__)))
 LIMIT = 16_777_216
@@ -30,36 +30,20 @@ def source(length):
         number += 1
 
 
-def measure(words, folder):
-    """Seconds, peak memory in MiB and status of a command whose output is dropped."""
-    begin = time.perf_counter()
-    child = os.fork()
-    if child == 0:
-        os.chdir(folder)
-        null = os.open(os.devnull, os.O_WRONLY)
-        os.dup2(null, 1)
-        os.execvp(words[0], words)
-    _, status, usage = os.wait4(child, 0)
-    return time.perf_counter() - begin, usage.ru_maxrss / 1024, os.waitstatus_to_exitcode(status)
-
-
 def main():
     length = int(sys.argv[1]) if len(sys.argv) > 1 else LIMIT
     with tempfile.TemporaryDirectory() as folder:
-        with open(os.path.join(folder, "t.c"), "w", encoding="ascii") as file:
-            file.write(source(length))
-        size = os.path.getsize(os.path.join(folder, "t.c"))
+        size = write(folder, source(length))
         surveyor = os.path.join(TOP, "surveyor")
         measure([surveyor, "alone", "absent.c"], folder)
-        own = min(measure([surveyor, "alone", "t.c"], folder) for _ in range(3))
-        print(f"file      {size} bytes")
-        print(f"surveyor  {own[0]:.2f} s  {own[1]:.0f} MiB  status {own[2]}")
-        if shutil.which("gcc") is None:
-            print("gcc       not there")
-            return
-        words = ["gcc", "-std=c99", "-m32", "-fsyntax-only", "t.c"]
-        peer = min(measure(words, folder) for _ in range(3))
-        print(f"gcc       {peer[0]:.2f} s  {peer[1]:.0f} MiB  status {peer[2]}")
+        own = min(measure([surveyor, "alone", SOURCE], folder) for _ in range(3))
+        peer = gcc(folder)
+    print(f"file      {size} bytes")
+    print(f"surveyor  {own[0]:.2f} s  {own[1] / 2**20:.0f} MiB  status {own[2]}")
+    if peer is None:
+        print("gcc       not there")
+    else:
+        print(f"gcc       {peer[0]:.2f} s  {peer[1] / 2**20:.0f} MiB  status {peer[2]}")
         print(f"ratio     {own[0] / peer[0]:.2f} of the time, {own[1] / peer[1]:.2f} of the memory")
 
 

@@ -9,11 +9,11 @@ least of three runs. Without gcc, the lexer alone is timed. The program is built
 usage: bench/tokens.py [BYTES]
 """
 import os
-import shutil
 import subprocess
 import sys
 import tempfile
-import time
+
+from beside_gcc import SOURCE, gcc, measure, write
 
 TOP = os.path.dirname(os.path.dirname(os.path.abspath(__file__)))
 CRATE = os.path.join(TOP, "crates", "lex_bench")
@@ -111,52 +111,40 @@ def source(length):
         number += 1
 
 
-def measure(words, folder):
-    """Seconds, peak memory in bytes and output of a command."""
-    name = os.path.join(folder, "output")
-    begin = time.perf_counter()
-    child = os.fork()
-    if child == 0:
-        os.chdir(folder)
-        os.dup2(os.open(name, os.O_WRONLY | os.O_CREAT | os.O_TRUNC), 1)
-        os.execvp(words[0], words)
-    _, status, usage = os.wait4(child, 0)
-    taken = time.perf_counter() - begin
+def cut(folder):
+    """Of one run: seconds, peak memory, seconds of cutting alone, tokens, and bytes of a `Token`."""
+    taken, peak, status = measure([PROGRAM, "time", SOURCE], folder, "output")
     if status != 0:
-        sys.exit(f"{words[0]} ended with status {os.waitstatus_to_exitcode(status)}")
-    with open(name, encoding="ascii") as file:
-        return taken, usage.ru_maxrss * 1024, file.read()
-
-
-def lexer(folder):
-    """Of the least of three runs: seconds, peak memory, seconds of cutting alone, tokens, and bytes of a `Token`."""
-    taken, peak, output = min(measure([PROGRAM, "time", "t.c"], folder) for _ in range(3))
-    words = output.split()
+        sys.exit(f"{PROGRAM} ended with status {status}")
+    with open(os.path.join(folder, "output"), encoding="ascii") as file:
+        words = file.read().split()
     return taken, peak, float(words[1]), int(words[3]), int(words[5])
+
+
+def build():
+    """Builds the program where it is missing."""
+    if not os.path.exists(PROGRAM):
+        words = ["rt", "run", "--", "list", "data/small.c", "100"]
+        subprocess.run(words, cwd=CRATE, check=True, stdout=subprocess.DEVNULL)
 
 
 def main():
     length = int(sys.argv[1]) if len(sys.argv) > 1 else LIMIT
-    if not os.path.exists(PROGRAM):
-        words = ["rt", "run", "--", "list", "data/small.c", "100"]
-        subprocess.run(words, cwd=CRATE, check=True, stdout=subprocess.DEVNULL)
+    build()
     with tempfile.TemporaryDirectory() as folder:
-        with open(os.path.join(folder, "t.c"), "w", encoding="ascii") as file:
-            file.write(source(length))
-        size = os.path.getsize(os.path.join(folder, "t.c"))
-        taken, peak, cutting, tokens, layout = lexer(folder)
-        print(f"load      {os.getloadavg()[0]:.0f} on {os.cpu_count()} processors")
-        print(f"file      {size} bytes, {tokens} tokens")
-        print(f"cutting   {cutting:.2f} s, {cutting / size * 1e9:.1f} ns a byte")
-        print(f"lexer     {taken:.2f} s, {peak / 2**20:.0f} MiB")
-        print(f"memory    {layout} bytes in a token, {(peak - size) / tokens:.1f} bytes at the peak for each")
-        if shutil.which("gcc") is None:
-            print("gcc       not there")
-            return
-        words = ["gcc", "-std=c99", "-m32", "-fsyntax-only", "t.c"]
-        peer, memory, _ = min(measure(words, folder) for _ in range(3))
-        print(f"gcc       {peer:.2f} s, {memory / 2**20:.0f} MiB")
-        print(f"ratio     {taken / peer:.2f} of the time, {cutting / peer:.2f} for cutting alone")
+        size = write(folder, source(length))
+        taken, peak, cutting, tokens, layout = min(cut(folder) for _ in range(3))
+        peer = gcc(folder)
+    print(f"load      {os.getloadavg()[0]:.0f} on {os.cpu_count()} processors")
+    print(f"file      {size} bytes, {tokens} tokens")
+    print(f"cutting   {cutting:.2f} s, {cutting / size * 1e9:.1f} ns a byte")
+    print(f"lexer     {taken:.2f} s, {peak / 2**20:.0f} MiB")
+    print(f"memory    {layout} bytes in a token, {(peak - size) / tokens:.1f} bytes at the peak for each")
+    if peer is None:
+        print("gcc       not there")
+    else:
+        print(f"gcc       {peer[0]:.2f} s, {peer[1] / 2**20:.0f} MiB, status {peer[2]}")
+        print(f"ratio     {taken / peer[0]:.2f} of the time, {cutting / peer[0]:.2f} for cutting alone")
 
 
 if __name__ == "__main__":
