@@ -1,6 +1,7 @@
 """What the scripts that time a program beside gcc share: the source, a measured command, and gcc on the same source."""
 import os
 import shutil
+import tempfile
 import time
 
 SOURCE = "t.c"
@@ -32,3 +33,23 @@ def gcc(folder):
         return None
     words = ["gcc", "-std=c99", "-m32", "-fsyntax-only", SOURCE]
     return min(measure(words, folder) for _ in range(3))
+
+
+def compare(text, own):
+    """The length of a source, what is measured of it in a folder of its own, and the measure of gcc."""
+    with tempfile.TemporaryDirectory() as folder:
+        return write(folder, text), own(folder), gcc(folder)
+
+
+def row(name, measured):
+    print(f"{name:<9} {measured[0]:.2f} s, {measured[1] / 2**20:.0f} MiB, status {measured[2]}")
+
+
+def tell(name, own, peer):
+    """Prints the measure of a program, that of gcc, and their ratios."""
+    row(name, own)
+    if peer is None:
+        print("gcc       not there")
+        return
+    row("gcc", peer)
+    print(f"ratio     {own[0] / peer[0]:.2f} of the time, {own[1] / peer[1]:.2f} of the memory")

@@ -6,9 +6,8 @@ usage: bench/first_form.py [BYTES]
 """
 import os
 import sys
-import tempfile
 
-from beside_gcc import SOURCE, gcc, measure, write
+from beside_gcc import SOURCE, compare, measure, tell
 
 TOP = os.path.dirname(os.path.dirname(os.path.abspath(__file__)))
 LIMIT = 16_777_216
@@ -30,21 +29,18 @@ def source(length):
         number += 1
 
 
+def surveyor(folder):
+    """The least of three measures of surveyor, which is built before them."""
+    program = os.path.join(TOP, "surveyor")
+    measure([program, "alone", "absent.c"], folder)
+    return min(measure([program, "alone", SOURCE], folder) for _ in range(3))
+
+
 def main():
     length = int(sys.argv[1]) if len(sys.argv) > 1 else LIMIT
-    with tempfile.TemporaryDirectory() as folder:
-        size = write(folder, source(length))
-        surveyor = os.path.join(TOP, "surveyor")
-        measure([surveyor, "alone", "absent.c"], folder)
-        own = min(measure([surveyor, "alone", SOURCE], folder) for _ in range(3))
-        peer = gcc(folder)
+    size, own, peer = compare(source(length), surveyor)
     print(f"file      {size} bytes")
-    print(f"surveyor  {own[0]:.2f} s  {own[1] / 2**20:.0f} MiB  status {own[2]}")
-    if peer is None:
-        print("gcc       not there")
-    else:
-        print(f"gcc       {peer[0]:.2f} s  {peer[1] / 2**20:.0f} MiB  status {peer[2]}")
-        print(f"ratio     {own[0] / peer[0]:.2f} of the time, {own[1] / peer[1]:.2f} of the memory")
+    tell("surveyor", own, peer)
 
 
 if __name__ == "__main__":

@@ -2,18 +2,17 @@
 """Times the lexer on a preprocessed source near the greatest length, beside gcc on the same file.
 
 The source repeats units as a preprocessor leaves them: line markers, declarations, tables and functions, with names of
-their own in each unit. Prints seconds for cutting it into tokens, as the program measures them, seconds and peak memory
-of the whole program and of gcc, which checks the file, the ratio of times (below a fifth is wanted), and the memory for
-a token: the size of `Token`, and the peak without the bytes of the source divided by the number of tokens. Each is the
-least of three runs. Without gcc, the lexer alone is timed. The program is built first where it is missing.
+their own in each unit. Prints seconds for cutting it into tokens, as the program measures them, the memory for a token
+(the size of `Token`, and the peak without the bytes of the source divided by the number of tokens), and seconds and peak
+memory of the whole program and of gcc, which checks the file, with their ratios: below a fifth of the time is wanted.
+Each is the least of three runs. Without gcc, the lexer alone is timed. The program is built first where it is missing.
 usage: bench/tokens.py [BYTES]
 """
 import os
 import subprocess
 import sys
-import tempfile
 
-from beside_gcc import SOURCE, gcc, measure, write
+from beside_gcc import SOURCE, compare, measure, tell
 
 TOP = os.path.dirname(os.path.dirname(os.path.abspath(__file__)))
 CRATE = os.path.join(TOP, "crates", "lex_bench")
@@ -112,39 +111,31 @@ def source(length):
 
 
 def cut(folder):
-    """Of one run: seconds, peak memory, seconds of cutting alone, tokens, and bytes of a `Token`."""
-    taken, peak, status = measure([PROGRAM, "time", SOURCE], folder, "output")
-    if status != 0:
-        sys.exit(f"{PROGRAM} ended with status {status}")
+    """Of one run: its measure, seconds of cutting alone, tokens, and bytes of a `Token`."""
+    measured = measure([PROGRAM, "time", SOURCE], folder, "output")
+    if measured[2] != 0:
+        sys.exit(f"{PROGRAM} ended with status {measured[2]}")
     with open(os.path.join(folder, "output"), encoding="ascii") as file:
         words = file.read().split()
-    return taken, peak, float(words[1]), int(words[3]), int(words[5])
+    return measured, float(words[1]), int(words[3]), int(words[5])
 
 
-def build():
-    """Builds the program where it is missing."""
+def lexer(folder):
+    """The least of three runs of the program, which is built first where it is missing."""
     if not os.path.exists(PROGRAM):
         words = ["rt", "run", "--", "list", "data/small.c", "100"]
         subprocess.run(words, cwd=CRATE, check=True, stdout=subprocess.DEVNULL)
+    return min(cut(folder) for _ in range(3))
 
 
 def main():
     length = int(sys.argv[1]) if len(sys.argv) > 1 else LIMIT
-    build()
-    with tempfile.TemporaryDirectory() as folder:
-        size = write(folder, source(length))
-        taken, peak, cutting, tokens, layout = min(cut(folder) for _ in range(3))
-        peer = gcc(folder)
+    size, (own, cutting, tokens, layout), peer = compare(source(length), lexer)
     print(f"load      {os.getloadavg()[0]:.0f} on {os.cpu_count()} processors")
     print(f"file      {size} bytes, {tokens} tokens")
     print(f"cutting   {cutting:.2f} s, {cutting / size * 1e9:.1f} ns a byte")
-    print(f"lexer     {taken:.2f} s, {peak / 2**20:.0f} MiB")
-    print(f"memory    {layout} bytes in a token, {(peak - size) / tokens:.1f} bytes at the peak for each")
-    if peer is None:
-        print("gcc       not there")
-    else:
-        print(f"gcc       {peer[0]:.2f} s, {peer[1] / 2**20:.0f} MiB, status {peer[2]}")
-        print(f"ratio     {taken / peer[0]:.2f} of the time, {cutting / peer[0]:.2f} for cutting alone")
+    print(f"memory    {layout} bytes in a token, {(own[1] - size) / tokens:.1f} bytes at the peak for each")
+    tell("lexer", own, peer)
 
 
 if __name__ == "__main__":
