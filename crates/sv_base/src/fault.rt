@@ -2,8 +2,8 @@ use crate::errors::NoMemory;
 use crate::place::Place;
 use std::alloc::{AllocError, AllocFailed};
 
-/// Why a source is refused: the phase, and in most phases a code. The codes and their texts stand in
-/// `docs/LANGUAGE.md`.
+/// Why a source is refused: the phase, and in most phases a code. `faults` names the
+/// codes, and `docs/FORMATS.md` has their texts.
 #[derive(Clone, Copy, Debug, PartialEq, Eq)]
 pub enum FaultKind {
     Lex,

@@ -5,7 +5,9 @@
 mod colour;
 mod errors;
 mod fault;
+pub mod faults;
 mod ids;
+pub mod limits;
 mod names;
 mod place;
 

@@ -2,12 +2,13 @@ ghost use Rattle.std.specs.Prelude.{◌≡◌, ℕ, ◌+◌, ◌<◌, ◌≤◌,
 ghost use Rattle.sv_base.specs.Names.{has_name, with_name, number_in};
 
 use crate::ids::FileId;
+use crate::limits;
 use indexmap::IndexSet;
 use std::alloc::{AllocError, AllocFailed, Global};
 use std::marker::Model;
 
 /// How many names there can be.
-pub const MOST_NAMES: usize = 65_535;
+pub const MOST_NAMES: usize = limits::NAMES;
 
 /// Why a name gets no number.
 #[derive(Clone, Copy, Debug, PartialEq, Eq)]
