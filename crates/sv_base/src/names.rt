@@ -105,7 +105,8 @@ impl Names {
         self.set.as_slice()[id.0 as usize].as_slice()
     }
 
-    fn len(&self) -> usize
+    /// How many names there are.
+    pub fn len(&self) -> usize
         ensures { result ≡ length self.now }
     {
         self.set.len()
