@@ -1,0 +1,19 @@
+//! The typed program: the types of a source by number, and its functions with each expression's type and each conversion
+//! written out.
+#![tactic(auto)]
+
+mod expression;
+mod holders;
+mod program;
+mod scope;
+mod statement;
+mod table;
+
+pub use expression::{TypedExpr, TypedKind};
+pub use holders::{HeldExpr, HeldExprs, HeldParts, HeldStatement, HeldStatements};
+pub use program::{
+    InitialPart, LinkedName, SitePlace, Typed, TypedBody, TypedFunction, TypedObject,
+};
+pub use scope::{ParamEntry, Scope, ScopeEntry, ScopeTag, Seen};
+pub use statement::TypedStatement;
+pub use table::{Extent, MemberType, RecordType, TypeForm, TypeId, TypeRow, TypeTable};
