@@ -3,6 +3,7 @@
 #![tactic(auto)]
 
 mod artifacts;
+mod bodies;
 mod classes;
 mod laws;
 mod order;
@@ -11,9 +12,11 @@ mod program;
 mod shapes;
 mod statics;
 mod steps;
+mod trees;
 mod views;
 
 pub use artifacts::{Artifact, Bounds, CallPart, Constraint, Solution, Stored, WritePart};
+pub use bodies::StepList;
 pub use classes::{ClassTable, FunctionNodes, LayoutPart, PartClass, RegionClass};
 pub use laws::{
     another_table_breaks_it, another_view_breaks_it, one_step_breaks_it, one_text_order,
@@ -31,4 +34,5 @@ pub use program::{CoreProgram, CoreSite, ExternalName, Function, Register};
 pub use shapes::{Part, Shape, ShapeForm};
 pub use statics::{StaticLeaf, StaticUnion, StaticValue};
 pub use steps::{Callee, Cond, Leaf, Operand, Step, Value};
+pub use trees::ShapeList;
 pub use views::{CalleePart, ClassPart, Effects, Facts, LeafPart, View};

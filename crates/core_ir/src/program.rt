@@ -2,10 +2,10 @@ use crate::classes::ClassTable;
 use crate::shapes::{Part, Shape};
 use crate::statics::{StaticLeaf, StaticUnion};
 use crate::steps::{Leaf, Step};
+use crate::{bodies, trees};
 use sv_base::{FuncId, Place};
 
 /// A program of the core.
-#[derive(Drop)]
 pub struct CoreProgram {
     pub functions: Vec<Function>,
     /// The functions that the environment calls.
@@ -30,7 +30,6 @@ pub struct CoreProgram {
 
 /// A defined function. Registers 0 to `parameters - 1` are its entry registers: register i holds argument i. No step puts
 /// anything into them.
-#[derive(Drop)]
 pub struct Function {
     pub name: Vec<u8>,
     /// The number of its type. Function types are numbered up to likeness.
@@ -40,6 +39,39 @@ pub struct Function {
     /// The register of the result; none for a function that returns nothing.
     pub result: Option<u32>,
     pub body: Vec<Step>,
+}
+
+impl Drop for CoreProgram {
+    fn drop(self) {
+        let CoreProgram {
+            functions: _,
+            entries: _,
+            objects,
+            parts: _,
+            classes: _,
+            statics: _,
+            unions: _,
+            leaf_starts: _,
+            pointer_starts: _,
+            sites: _,
+            externals: _,
+        } = self;
+        trees::let_go(objects);
+    }
+}
+
+impl Drop for Function {
+    fn drop(self) {
+        let Function {
+            name: _,
+            kind: _,
+            parameters: _,
+            registers: _,
+            result: _,
+            body,
+        } = self;
+        bodies::let_go(body);
+    }
 }
 
 #[derive(Clone, Copy, Debug, PartialEq, Eq)]
