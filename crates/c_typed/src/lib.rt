@@ -2,18 +2,25 @@
 //! written out.
 #![tactic(auto)]
 
+mod classes;
 mod expression;
 mod holders;
+mod layout;
 mod program;
+mod reads;
 mod scope;
 mod statement;
 mod table;
+mod types;
 
 pub use expression::{TypedExpr, TypedKind};
 pub use holders::{HeldExpr, HeldExprs, HeldParts, HeldStatement, HeldStatements};
+pub use layout::{POINTER_SIZE, RecordLayout, int_size};
 pub use program::{
     InitialPart, LinkedName, SitePlace, Typed, TypedBody, TypedFunction, TypedObject,
 };
+pub use reads::TypeKind;
 pub use scope::{ParamEntry, Scope, ScopeEntry, ScopeTag, Seen};
 pub use statement::TypedStatement;
 pub use table::{Extent, MemberType, RecordType, TypeForm, TypeId, TypeRow, TypeTable};
+pub use types::Types;
