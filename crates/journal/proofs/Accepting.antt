@@ -1,5 +1,5 @@
 -- One record more that was read.
-use Rattle.std.proofs.Common.{◌≡◌, inl, inr, ℕ, ◌+◌, ◌-◌, Bool, true, false, if◌then◌else◌, cond, List, [], ◌∷◌, ◌++◌, length, take, drop, refl, sym, ◌∙◌, ap, subst, arith}
+use Rattle.std.proofs.Common.{◌≡◌, inl, inr, ℕ, ◌+◌, ◌-◌, Bool, true, false, if◌then◌else◌, cond, List, [], ◌∷◌, ◌++◌, length, take, drop, refl, sym, ◌∙◌, ap, subst, arith, append_assoc}
 use Rattle.std.proofs.lemmas.List.{append-nil, take_at}
 use Rattle.std.proofs.lemmas.List.Elements.{filter-append}
 use Rattle.journal.specs.declared.digests.Digests.{Digests}
@@ -9,6 +9,7 @@ use Rattle.journal.specs.declared.scan.Scan.{Scan}
 use Rattle.journal.specs.Format.{Entry, bytes_of, opened}
 use Rattle.journal.specs.Lists.{is_version, versions, version_entry, IsSized, AreSized, VersionsFit, AreFit}
 use Rattle.journal.specs.Scans.{HasRead}
+use Rattle.journal.specs.Settling.{ArePlain}
 use Rattle.journal.specs.Headers.{header_for}
 use Rattle.journal.proofs.Crash.{front-push}
 use Rattle.journal.proofs.Pages.{take_split}
@@ -32,6 +33,12 @@ fit_plain version current entries entry fit sized plain = record {
   sized = sized_push entries entry fit.sized sized;
   versions_fit = subst (VersionsFit version current) (sym (versions-plain entries entry plain)) fit.versions_fit;
 }
+
+-- a batch more
+pub fit_batch : (version : Version) (current : List ℕ) (entries batch : List Entry) → AreFit version current entries → ArePlain batch → AreFit version current (entries ++ batch)
+fit_batch version current entries [] fit plain = subst (AreFit version current) (sym (append-nil entries)) fit
+fit_batch version current entries (e ∷ es) fit plain =
+    subst (AreFit version current) (append_assoc entries (e ∷ []) es) (fit_batch version current (entries ++ e ∷ []) es (fit_plain version current entries e fit plain.0.sized plain.0.plain) plain.1)
 
 -- the front with one record more
 pub front_more : (header : List ℕ) (entries : List Entry) (entry : Entry) (image : List ℕ) (at : ℕ) → take at image ≡ header ++ opened entries → drop at image ≡ (1 ∷ bytes_of entry) ++ drop (at + 13 + length entry.body) image

@@ -1,9 +1,9 @@
 -- What a crash leaves in each of the two steps of an append.
-use Rattle.std.proofs.Common.{◌≡◌, ◌≢◌, ◌⊎◌, inl, inr, ℕ, ◌+◌, ◌≤◌, ◌^◌, List, [], ◌∷◌, ◌++◌, length, get_or, take, drop, refl, sym, ◌∙◌, ap, arith, append_assoc, length-append}
+use Rattle.std.proofs.Common.{◌≡◌, ◌≢◌, ◌⊎◌, inl, inr, ℕ, ◌+◌, ◌≤◌, ◌^◌, List, [], ◌∷◌, ◌++◌, length, get_or, set, take, drop, refl, sym, ◌∙◌, ap, arith, append_assoc, length-append}
 use Rattle.std.proofs.lemmas.List.{take_at, drop_at, drop_more, take_all, drop_all, append-nil, take-append-drop}
 use Rattle.std.proofs.lemmas.Bool.Decides.{eqb_tells}
 use Rattle.sv_outside.specs.Disk.{Holds, Torn}
-use Rattle.journal.specs.Format.{Entry, bytes_of, opened, at_rest, Rests, IsClosed, IsBeforeOrAfter}
+use Rattle.journal.specs.Format.{Entry, bytes_of, opened, at_rest, Rests, IsBatch, IsClosed, IsBeforeOrAfter}
 
 -- a gate that is not open, whatever stands behind it
 pub shut : (x : ℕ) (rest : List ℕ) → x ≢ 1 → IsClosed (x ∷ rest)
@@ -85,20 +85,65 @@ pub front-push : (header : List ℕ) (entries : List Entry) (entry : Entry) (res
 front-push header entries entry rest =
     append_assoc header (opened (entries ++ entry ∷ [])) rest ∙ ap (λ (l : List ℕ). header ++ l) (opened-push entries entry rest) ∙ sym (append_assoc header (opened entries) ((1 ∷ bytes_of entry) ++ rest))
 
-pub before_or_after : (header : List ℕ) (entries : List Entry) (entry : Entry) (c : List ℕ) → length c ≤ 2 ^ 31 → EndsClosed (header ++ opened entries) c ⊎ (c ≡ (header ++ opened entries) ++ ((1 ∷ bytes_of entry) ++ 0 ∷ [])) → IsBeforeOrAfter header entries entry c
-before_or_after header entries entry c short either = elim either [
+-- the records of two lists, one behind the other
+opened-append : (entries batch : List Entry) → opened (entries ++ batch) ≡ opened entries ++ opened batch
+opened-append [] batch = refl
+opened-append (e ∷ es) batch = ap (λ (l : List ℕ). (1 ∷ bytes_of e) ++ l) (opened-append es batch) ∙ sym (append_assoc (1 ∷ bytes_of e) (opened es) (opened batch))
+
+-- a batch more behind the header
+front-batch : (header : List ℕ) (entries batch : List Entry) (body rest : List ℕ) → opened batch ≡ 1 ∷ body → (header ++ opened (entries ++ batch)) ++ rest ≡ (header ++ opened entries) ++ ((1 ∷ body) ++ rest)
+front-batch header entries batch body rest is =
+    let all : header ++ opened (entries ++ batch) ≡ (header ++ opened entries) ++ (1 ∷ body) =
+    ap (λ (l : List ℕ). header ++ l) (opened-append entries batch ∙ ap (λ (l : List ℕ). opened entries ++ l) is) ∙ sym (append_assoc header (opened entries) (1 ∷ body)) in
+    ap (λ (l : List ℕ). l ++ rest) all ∙ append_assoc (header ++ opened entries) (1 ∷ body) rest
+
+-- what stands behind the gate of a batch
+pub record Behind (batch : List Entry) (bytes : List ℕ) : Type 0 where
+  pub body : List ℕ
+  pub gated : opened batch ≡ 1 ∷ body
+  pub whole : bytes ≡ body ++ 0 ∷ []
+
+pub behind : (batch : List Entry) (bytes : List ℕ) → IsBatch batch bytes → Behind batch bytes
+behind [] bytes is = let no : 1 ≡ 0 = ap (λ (l : List ℕ). get_or l 0 2) is in absurd (omega (arith, no))
+behind (e ∷ es) bytes is = record { body = bytes_of e ++ opened es; gated = refl; whole = ap (drop 1) is }
+
+pub batch_length : (batch : List Entry) (bytes : List ℕ) → IsBatch batch bytes → length (opened batch) ≡ length bytes
+batch_length batch bytes is = omega (arith, ap length is, length-append (opened batch) (0 ∷ []))
+
+pub one_length : (entry : Entry) → length (opened (entry ∷ [])) ≡ length (bytes_of entry ++ 0 ∷ [])
+one_length entry = omega (arith, length-append (1 ∷ bytes_of entry) [], length-append (bytes_of entry) (0 ∷ []))
+
+pub before_or_after : (header : List ℕ) (entries batch : List Entry) (body c : List ℕ) → opened batch ≡ 1 ∷ body → length c ≤ 2 ^ 31
+    → EndsClosed (header ++ opened entries) c ⊎ (c ≡ (header ++ opened entries) ++ ((1 ∷ body) ++ 0 ∷ [])) → IsBeforeOrAfter header entries batch c
+before_or_after header entries batch body c is short either = elim either [
   | inl before ↦ (short, inl before)
-  | inr after ↦ (short, inr (0 ∷ [], after ∙ sym (front-push header entries entry (0 ∷ [])), tt))
+  | inr after ↦ (short, inr (0 ∷ [], after ∙ sym (front-batch header entries batch body (0 ∷ []) is), tt))
 ]
 
-pub after_only : (header : List ℕ) (entries : List Entry) (entry : Entry) (c : List ℕ) → c ≡ (header ++ opened entries) ++ ((1 ∷ bytes_of entry) ++ 0 ∷ []) → c ≡ at_rest header (entries ++ entry ∷ [])
-after_only header entries entry c after = after ∙ sym (front-push header entries entry (0 ∷ []))
+pub after_only : (header : List ℕ) (entries batch : List Entry) (body c : List ℕ) → opened batch ≡ 1 ∷ body → c ≡ (header ++ opened entries) ++ ((1 ∷ body) ++ 0 ∷ []) → c ≡ at_rest header (entries ++ batch)
+after_only header entries batch body c is after = after ∙ sym (front-batch header entries batch body (0 ∷ []) is)
 
--- where the next gate stands once a record more stands
-pub gate_after : (header : List ℕ) (entries : List Entry) (entry : Entry) (gate n : ℕ) → length (header ++ opened entries) ≡ gate → n ≡ length (bytes_of entry ++ 0 ∷ []) → length (header ++ opened (entries ++ entry ∷ [])) ≡ gate + n
-gate_after header entries entry gate n size long =
-    let whole = ap length (front-push header entries entry []) in
-    omega (arith, whole, size, long, length-append (header ++ opened (entries ++ entry ∷ [])) [], length-append (header ++ opened entries) ((1 ∷ bytes_of entry) ++ []), length-append (1 ∷ bytes_of entry) [], length-append (bytes_of entry) (0 ∷ []), length-append entry.body (0 ∷ []), length-append entry.body [])
+-- where the next gate stands once a batch more stands
+pub gate_after : (header : List ℕ) (entries batch : List Entry) (gate n : ℕ) → length (header ++ opened entries) ≡ gate → length (opened batch) ≡ n → length (header ++ opened (entries ++ batch)) ≡ gate + n
+gate_after header entries batch gate n size long =
+    omega (arith, size, long, ap length (opened-append entries batch), length-append header (opened (entries ++ batch)), length-append header (opened entries), length-append (opened entries) (opened batch))
 
-pub rests_after : (header : List ℕ) (entries : List Entry) (entry : Entry) → Rests header (entries ++ entry ∷ []) (at_rest header (entries ++ entry ∷ []))
-rests_after header entries entry = record { last = 0; shut = λ e. omega (arith, e); whole = refl }
+pub rests_after : (header : List ℕ) (entries batch : List Entry) → Rests header (entries ++ batch) (at_rest header (entries ++ batch))
+rests_after header entries batch = record { last = 0; shut = λ e. omega (arith, e); whole = refl }
+
+set_last : (body : List ℕ) → set (body ++ 0 ∷ []) (length body) 1 ≡ body ++ 1 ∷ []
+set_last [] = refl
+set_last (x ∷ body) = ap (λ (l : List ℕ). x ∷ l) (set_last body)
+
+-- a record more in a batch, whose last gate is opened for it
+pub batch_more : (batch : List Entry) (entry : Entry) (old numbers : List ℕ) (last : ℕ) → last + 1 ≡ length old → bytes_of entry ≡ numbers ++ entry.body → IsBatch batch old
+    → IsBatch (batch ++ entry ∷ []) (((set old last 1 ++ numbers) ++ entry.body) ++ 0 ∷ [])
+batch_more batch entry old numbers last end is batched =
+    let b = behind batch old batched in
+    let place : last ≡ length b.body = omega (arith, end, ap length b.whole, length-append b.body (0 ∷ [])) in
+    let front : set old last 1 ≡ b.body ++ 1 ∷ [] = (λ i. set (b.whole i) (place i) 1) ∙ set_last b.body in
+    let left : ((set old last 1 ++ numbers) ++ entry.body) ++ 0 ∷ [] ≡ b.body ++ ((1 ∷ bytes_of entry) ++ 0 ∷ []) =
+    ap (λ (l : List ℕ). ((l ++ numbers) ++ entry.body) ++ 0 ∷ []) front ∙ (append_assoc ((b.body ++ 1 ∷ []) ++ numbers) entry.body (0 ∷ [])
+    ∙ (append_assoc (b.body ++ 1 ∷ []) numbers (entry.body ++ 0 ∷ []) ∙ (append_assoc b.body (1 ∷ []) (numbers ++ (entry.body ++ 0 ∷ []))
+    ∙ ap (λ (l : List ℕ). b.body ++ 1 ∷ l) (sym (append_assoc numbers entry.body (0 ∷ [])) ∙ ap (λ (l : List ℕ). l ++ 0 ∷ []) (sym is))))) in
+    ap (λ (l : List ℕ). 1 ∷ l) left ∙ (ap (λ (l : List ℕ). l ++ ((1 ∷ bytes_of entry) ++ 0 ∷ [])) (sym b.gated) ∙ sym (opened-push batch entry (0 ∷ [])))

@@ -1,4 +1,4 @@
--- The first record of each place.
+-- The first record of each key.
 use Rattle.std.proofs.Common.{◌≡◌, ℕ, ◌+◌, ◌<◌, ◌==◌, ◌&&◌, Bool, true, false, cond, if◌then◌else◌, List, [], ◌∷◌, ◌++◌, length, get_or, find, refl, sym, ◌∙◌, ap, subst, arith, length-append, Option, Some, None, is_some, slice_get, Vec, Global}
 use Rattle.std.proofs.lemmas.Bool.Decides.{Decides-eqb}
 use Rattle.std.proofs.lemmas.List.Folds.{find-append}
@@ -6,10 +6,10 @@ use Rattle.std.proofs.lemmas.Option.{slice_get-get_or}
 use Rattle.std.specs.Option.{option_or}
 use Rattle.std.proofs.lemmas.List.{get_or_append_left, get_or-map, length-map}
 use Rattle.std.proofs.Math.Seq.{get_or-append_seam}
-use Rattle.journal.specs.declared.shelf.Place.{Place}
+use Rattle.journal.specs.declared.first_bodies.TaskKey.{TaskKey}
 use Rattle.journal.specs.Format.{Entry}
 use Rattle.journal.specs.Looks.{is_short, one_before, body_or, filled}
-use Rattle.journal.specs.Shelves.{is_of, same_place, place_of, given, IsFirst, IsBodyOf}
+use Rattle.journal.specs.Keys.{is_of, same_key, key_of, given, IsFirst, IsBodyOf}
 use Rattle.journal.specs.Steps.{entry_of}
 use Rattle.journal.specs.declared.kept.Kept.{Kept}
 
@@ -17,14 +17,14 @@ both : (a b : Bool) → (a && b) ≡ true → (a ≡ true) × (b ≡ true)
 both true b is = (refl, is)
 both false b is = absurd (let e : false ≡ true = is in cc)
 
-pub same_true : (p q : Place) → same_place p q ≡ true → p ≡ q
+pub same_true : (p q : TaskKey) → same_key p q ≡ true → p ≡ q
 same_true p q is =
     let parts = both (p.round == q.round) (p.task == q.task) is in
     let round : p.round ≡ q.round = (Decides-eqb p.round q.round).0 parts.0 in
     let task : p.task ≡ q.task = (Decides-eqb p.task q.task).0 parts.1 in
     λ i. record { round = round i; task = task i }
 
-pub kept_first : (r : Option ℕ) (es : List Entry) (e : Entry) (q : Place) → IsFirst r es q → (is_of q e ≡ true → r ≡ None → ⊥) → IsFirst r (es ++ e ∷ []) q
+pub kept_first : (r : Option ℕ) (es : List Entry) (e : Entry) (q : TaskKey) → IsFirst r es q → (is_of q e ≡ true → r ≡ None → ⊥) → IsFirst r (es ++ e ∷ []) q
 kept_first None es e q none other = find-append (is_of q) es (e ∷ []) ∙ (ap (λ (o : Option Entry). option_or o (find (is_of q) (e ∷ []))) none ∙ go (is_of q e) refl)
   where
     go : (b : Bool) → is_of q e ≡ b → find (is_of q) (e ∷ []) ≡ None
@@ -36,29 +36,29 @@ kept_first (Some i) es e q first other =
     let now : slice_get (es ++ e ∷ []) i ≡ Some (get_or es i e) = slice_get-get_or (es ++ e ∷ []) i e within ∙ ap (λ (x : Entry). Some x) (get_or_append_left es (e ∷ []) e i first.0) in
     (within, find-append (is_of q) es (e ∷ []) ∙ (ap (λ (o : Option Entry). option_or o (find (is_of q) (e ∷ []))) (first.1 ∙ some) ∙ sym now))
 
-pub new_first : (es : List Entry) (e : Entry) (q : Place) → IsFirst None es q → is_of q e ≡ true → IsFirst (Some (length es)) (es ++ e ∷ []) q
+pub new_first : (es : List Entry) (e : Entry) (q : TaskKey) → IsFirst None es q → is_of q e ≡ true → IsFirst (Some (length es)) (es ++ e ∷ []) q
 new_first es e q none is =
     let within : length es < length (es ++ e ∷ []) = omega (arith, length-append es (e ∷ [])) in
     let now : slice_get (es ++ e ∷ []) (length es) ≡ Some e = slice_get-get_or (es ++ e ∷ []) (length es) e within ∙ ap (λ (x : Entry). Some x) (get_or-append_seam es e [] e) in
     let one : find (is_of q) (e ∷ []) ≡ Some e = ap (λ (b : Bool). cond b (Some e) None) is in
     (within, find-append (is_of q) es (e ∷ []) ∙ (ap (λ (o : Option Entry). option_or o (find (is_of q) (e ∷ []))) none ∙ (one ∙ sym now)))
 
--- one record more, of a place that has been noted
-pub noted_before : (firsts : Place → Option ℕ) (es : List Entry) (e : Entry) (place : Place) → place ≡ place_of e → (firsts place ≡ None → ⊥) → ((q : Place) → IsFirst (firsts q) es q) → (q : Place) → IsFirst (firsts q) (es ++ e ∷ []) q
-noted_before firsts es e place is some before q = kept_first (firsts q) es e q (before q)
-    (λ is' none. some (ap firsts (same_true place q (ap (λ (p : Place). same_place p q) is ∙ is')) ∙ none))
+-- one record more, of a key that has been noted
+pub noted_before : (firsts : TaskKey → Option ℕ) (es : List Entry) (e : Entry) (key : TaskKey) → key ≡ key_of e → (firsts key ≡ None → ⊥) → ((q : TaskKey) → IsFirst (firsts q) es q) → (q : TaskKey) → IsFirst (firsts q) (es ++ e ∷ []) q
+noted_before firsts es e key is some before q = kept_first (firsts q) es e q (before q)
+    (λ is' none. some (ap firsts (same_true key q (ap (λ (p : TaskKey). same_key p q) is ∙ is')) ∙ none))
 
--- one record more, whose place is noted now
-pub noted_now : (firsts now : Place → Option ℕ) (es : List Entry) (e : Entry) (place : Place) (index : ℕ) → length es ≡ index → place ≡ place_of e → firsts place ≡ None → ((q : Place) → now q ≡ cond (same_place place q) (Some index) (firsts q))
-    → ((q : Place) → IsFirst (firsts q) es q) → (q : Place) → IsFirst (now q) (es ++ e ∷ []) q
-noted_now firsts now es e place index size is none gets before q = go (same_place place q) refl
+-- one record more, whose key is noted now
+pub noted_now : (firsts now : TaskKey → Option ℕ) (es : List Entry) (e : Entry) (key : TaskKey) (index : ℕ) → length es ≡ index → key ≡ key_of e → firsts key ≡ None → ((q : TaskKey) → now q ≡ cond (same_key key q) (Some index) (firsts q))
+    → ((q : TaskKey) → IsFirst (firsts q) es q) → (q : TaskKey) → IsFirst (now q) (es ++ e ∷ []) q
+noted_now firsts now es e key index size is none gets before q = go (same_key key q) refl
   where
-    of : is_of q e ≡ same_place place q
-    of = sym (ap (λ (p : Place). same_place p q) is)
+    of : is_of q e ≡ same_key key q
+    of = sym (ap (λ (p : TaskKey). same_key p q) is)
 
-    go : (b : Bool) → same_place place q ≡ b → IsFirst (now q) (es ++ e ∷ []) q
+    go : (b : Bool) → same_key key q ≡ b → IsFirst (now q) (es ++ e ∷ []) q
     go true here' =
-        let here : firsts q ≡ None = sym (ap firsts (same_true place q here')) ∙ none in
+        let here : firsts q ≡ None = sym (ap firsts (same_true key q here')) ∙ none in
         let has : Some (length es) ≡ now q = ap (λ (i : ℕ). Some i) size ∙ sym (gets q ∙ ap (λ (b : Bool). cond b (Some index) (firsts q)) here') in
         subst (λ (r : Option ℕ). IsFirst r (es ++ e ∷ []) q) has (new_first es e q (subst (λ (r : Option ℕ). IsFirst r es q) here (before q)) (of ∙ here'))
     go false other =
@@ -85,20 +85,20 @@ pub some_none : (o : Option ℕ) → is_some o ≡ true → o ≡ None → ⊥
 some_none None some none = absurd (let e : false ≡ true = some in cc)
 some_none (Some x) some none = absurd (let e : Some x ≡ None = none in cc)
 
-pub at_index : (found : Option ℕ) (index : ℕ) (es : List Entry) (place : Place) → Some index ≡ found → IsFirst found es place → IsFirst (Some index) es place
-at_index found index es place is first = subst (λ (r : Option ℕ). IsFirst r es place) (sym is) first
+pub at_index : (found : Option ℕ) (index : ℕ) (es : List Entry) (key : TaskKey) → Some index ≡ found → IsFirst found es key → IsFirst (Some index) es key
+at_index found index es key is first = subst (λ (r : Option ℕ). IsFirst r es key) (sym is) first
 
-pub within : (index : ℕ) (records : List Kept) (place : Place) → IsFirst (Some index) (given records) place → index < length records
-within index records place first = omega (arith, first.0, length-map records entry_of)
+pub within : (index : ℕ) (records : List Kept) (key : TaskKey) → IsFirst (Some index) (given records) key → index < length records
+within index records key first = omega (arith, first.0, length-map records entry_of)
 
-pub body_is : (index : ℕ) (records : List Kept) (place : Place) (kept : Kept) (body : Vec ℕ Global) → IsFirst (Some index) (given records) place → kept ≡ get_or records index kept → body.items ≡ kept.body.items → IsBodyOf (find (is_of place) (given records)) (Some body)
-body_is index records place kept body first here same =
-    let le : index < length records = within index records place first in
+pub body_is : (index : ℕ) (records : List Kept) (key : TaskKey) (kept : Kept) (body : Vec ℕ Global) → IsFirst (Some index) (given records) key → kept ≡ get_or records index kept → body.items ≡ kept.body.items → IsBodyOf (find (is_of key) (given records)) (Some body)
+body_is index records key kept body first here same =
+    let le : index < length records = within index records key first in
     let at : slice_get (given records) index ≡ Some (entry_of kept) =
     slice_get-get_or (given records) index (entry_of kept) first.0 ∙ ap (λ (e : Entry). Some e) (get_or-map entry_of records index kept (entry_of kept) le ∙ ap entry_of (sym here)) in
     subst (λ (o : Option Entry). IsBodyOf o (Some body)) (sym (first.1 ∙ at)) same
 
-pub no_body : (found : Option ℕ) (es : List Entry) (place : Place) → None ≡ found → IsFirst found es place → IsBodyOf (find (is_of place) es) None
-no_body found es place is first =
-    let none : find (is_of place) es ≡ None = subst (λ (r : Option ℕ). IsFirst r es place) (sym is) first in
+pub no_body : (found : Option ℕ) (es : List Entry) (key : TaskKey) → None ≡ found → IsFirst found es key → IsBodyOf (find (is_of key) es) None
+no_body found es key is first =
+    let none : find (is_of key) es ≡ None = subst (λ (r : Option ℕ). IsFirst r es key) (sym is) first in
     subst (λ (o : Option Entry). IsBodyOf o None) (sym none) tt

@@ -14,7 +14,7 @@ use Rattle.journal.specs.Lists.{is_version, ordinary, IsDatabase}
 use Rattle.journal.specs.Looks.{placed, handed, filled, filled_from, Lists, ReadsAll, Looks}
 use Rattle.journal.specs.Nexts.{HandsOut, ComesToEnd, ReadsOn}
 use Rattle.journal.specs.Scans.{HasRead}
-use Rattle.journal.specs.Shelves.{Gains}
+use Rattle.journal.specs.Keys.{Gains}
 use Rattle.journal.specs.Steps.{entry_of, IsStepAnswer}
 use Rattle.journal.proofs.Ends.{stands_at}
 
@@ -65,7 +65,7 @@ filled_more given (x ∷ xs) e =
     let rest : List Entry = filled_from next xs in
     ap (λ (l : List Entry). filled given x ∷ l) (filled_more next xs e ∙ ap (λ (l : List Entry). rest ++ filled l e ∷ []) (append_assoc given (filled given x ∷ []) rest))
 
--- one record more on the shelf
+-- one record more, given
 pub lists_more : (digests : Digests) (entries : List Entry) (version : Version) (kept : Kept) (image : List ℕ) (new : Scan) (old now : List Kept) → (out : HandsOut digests entries version kept image new)
     → Lists digests version entries old → Gains old kept now → Lists digests version ((entries ++ out.passed) ++ entry_of kept ∷ []) now
 lists_more digests entries version kept image new old now out lists gains =

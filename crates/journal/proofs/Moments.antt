@@ -1,5 +1,5 @@
 -- How a run of disk calls goes on.
-use Rattle.std.proofs.Common.{◌≤◌, length, refl, sym, subst, inl, inr, ⊎_elim, ℕ, List, arith}
+use Rattle.std.proofs.Common.{length, refl, sym, subst, inl, inr, ⊎_elim, ℕ, List, arith}
 use Rattle.std.proofs.lemmas.List.{take_all}
 use Rattle.sv_outside.specs.Disk.{Elapses, LeavesOnly, Torn, Cut, IsStill}
 

@@ -43,6 +43,10 @@ pub record Rests (header : List ℕ) (entries : List Entry) (image : List ℕ) :
   pub shut : last ≢ 1
   pub whole : image ≡ (header ++ opened entries) ++ last ∷ []
 
--- the records from before, or those and one more, in an image that is not too long
-abbrev pub IsBeforeOrAfter : List ℕ → List Entry → Entry → List ℕ → Type 0
-IsBeforeOrAfter header entries entry image = (length image ≤ 2 ^ 31) × (Stands header entries image ⊎ Stands header (entries ++ entry ∷ []) image)
+-- the records from before, or those and all of a batch, in an image that is not too long
+abbrev pub IsBeforeOrAfter : List ℕ → List Entry → List Entry → List ℕ → Type 0
+IsBeforeOrAfter header entries batch image = (length image ≤ 2 ^ 31) × (Stands header entries image ⊎ Stands header (entries ++ batch) image)
+
+-- the bytes of a batch of records behind the gate of the first: the gates between them are open, and the next one is closed
+abbrev pub IsBatch : List Entry → List ℕ → Type 0
+IsBatch batch bytes = 1 ∷ bytes ≡ opened batch ++ 0 ∷ []

@@ -34,3 +34,9 @@ abbrev pub Reserves : ℕ → ℕ → Room → Result (Unit {0}) NoRoom → Type
 Reserves gate length room (Ok unit) = HasReserved room gate (length + 13)
 Reserves gate length room (Err (Full size)) = (size ≡ gate + length + 14) × (2 ^ 31 < size)
 Reserves gate length room (Err NoMemory) = gate + length + 14 ≤ 2 ^ 31
+
+-- the same for records of so many bytes, the next gate among them
+abbrev pub ReservesFor : ℕ → ℕ → Room → Result (Unit {0}) NoRoom → Type 0
+ReservesFor gate length room (Ok unit) = HasReserved room gate length
+ReservesFor gate length room (Err (Full size)) = (size ≡ gate + 1 + length) × (2 ^ 31 < size)
+ReservesFor gate length room (Err NoMemory) = gate + 1 + length ≤ 2 ^ 31

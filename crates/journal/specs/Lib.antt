@@ -12,6 +12,6 @@ pub mod Pieces
 pub mod Readings
 pub mod Scans
 pub mod Settling
-pub mod Shelved
-pub mod Shelves
+pub mod Bodies
+pub mod Keys
 pub mod Steps

@@ -1,5 +1,5 @@
 -- What the reading of the next record answers, version records aside.
-use Rattle.std.specs.Prelude.{◌≡◌, ℕ, ◌<◌, false, List, [], ◌∷◌, ◌++◌, length, drop, Option, Some, None, Result, Ok, Err}
+use Rattle.std.specs.Prelude.{◌≡◌, ℕ, ◌+◌, ◌≤◌, false, List, [], ◌∷◌, ◌++◌, length, drop, Option, Some, None, Result, Ok, Err}
 use Rattle.journal.specs.declared.digests.Digests.{Digests}
 use Rattle.journal.specs.declared.digests.Version.{Version}
 use Rattle.journal.specs.declared.fault.OpenFault.{OpenFault}
@@ -59,7 +59,7 @@ abbrev pub IfEnded : Result (Option Kept) OpenFault → Type 0 → Type 0
 IfEnded (Ok None) P = P
 IfEnded other P = Unit {0}
 
--- a record that was read lies behind
+-- a record that was read lies behind, and at least its 13 bytes and its body were passed
 abbrev pub PassesOn : Scan → Scan → Result (Option Kept) OpenFault → Type 0
-PassesOn old new (Ok (Some kept)) = old.at < new.at
+PassesOn old new (Ok (Some kept)) = (old.at ≤ kept.at) × (new.at ≡ kept.at + 13 + length kept.body.items)
 PassesOn old new other = Unit {0}

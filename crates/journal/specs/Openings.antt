@@ -32,6 +32,11 @@ RefusesContent (Err NotDatabase) = Unit {0}
 RefusesContent (Err (OtherSource stored wanted)) = Unit {0}
 RefusesContent other = ⊥
 
+-- no record was read yet, so none is damaged
+abbrev pub IsOpeningAnswer : {T : Type 0} → Result T OpenFault → Type 0
+IsOpeningAnswer (Err (Damaged at)) = ⊥
+IsOpeningAnswer other = Unit {0}
+
 -- the disk as an opening hands it back, and its answer
 abbrev pub handed_back : {D T : Type 0} → (T → D) → Result T (D × OpenFault) → D
 handed_back disk_of (Ok opened) = disk_of opened

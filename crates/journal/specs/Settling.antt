@@ -20,6 +20,11 @@ pub record IsPlain (entry : Entry) : Type 0 where
   pub sized : IsSized entry
   pub plain : is_version entry ≡ false
 
--- an image that holds the records from before, or those and one more
-abbrev pub HoldsEither : Digests → List Entry → Entry → List ℕ → Type 0
-HoldsEither digests entries entry image = HoldsList digests entries image ⊎ HoldsList digests (entries ++ entry ∷ []) image
+-- records that rounds may have, with numbers of four bytes
+abbrev pub ArePlain : List Entry → Type 0
+ArePlain [] = Unit {0}
+ArePlain (entry ∷ entries) = IsPlain entry × ArePlain entries
+
+-- an image that holds the records from before, or those and all of a batch
+abbrev pub HoldsEither : Digests → List Entry → List Entry → List ℕ → Type 0
+HoldsEither digests entries batch image = HoldsList digests entries image ⊎ HoldsList digests (entries ++ batch) image

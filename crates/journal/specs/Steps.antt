@@ -80,8 +80,9 @@ abbrev pub StopsAtClosed : Scan → List ℕ → Scan → Result Step OpenFault 
 StopsAtClosed old image new (Ok Closed) = IsClosed (drop old.at image) × (new ≡ old)
 StopsAtClosed old image new other = Unit {0}
 
--- a record that was read lies behind
+-- a record that was read stands at the gate, and lies behind
 abbrev pub GoesFurther : Scan → Scan → Result Step OpenFault → Type 0
 GoesFurther old new (Ok Closed) = Unit {0}
-GoesFurther old new (Ok step) = old.at < new.at
+GoesFurther old new (Ok (Record kept)) = (kept.at ≡ old.at) × (new.at ≡ kept.at + 13 + length kept.body.items)
+GoesFurther old new (Ok Version) = old.at < new.at
 GoesFurther old new (Err fault) = Unit {0}

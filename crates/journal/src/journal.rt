@@ -36,17 +36,17 @@ impl<D: Disk> Journal<D> {
     ghost use Rattle.std.specs.Prelude.{◌≡◌, ◌⊎◌, ◌≤◌, ◌+◌, ◌++◌, [], ◌∷◌, List, ℕ, true, false, length, OnOk, OnErr, IfOk, IsErr, IsErrOf};
     ghost use Rattle.sv_outside.specs.Outside.{Rose};
     ghost use Rattle.sv_outside.specs.Disk.{IsStill, LeavesOnly};
-    ghost use Rattle.journal.specs.Format.{Entry, bytes_of};
+    ghost use Rattle.journal.specs.Format.{Entry, IsBatch};
     ghost use Rattle.journal.specs.declared.fault.OpenFault.TheVariants.{Disk as disk_fault};
-    ghost use Rattle.journal.specs.Openings.{Opens, BecomesOpen, LeftByOpening, RefusesContent, handed_back, answer_of};
+    ghost use Rattle.journal.specs.Openings.{Opens, BecomesOpen, LeftByOpening, RefusesContent, IsOpeningAnswer, handed_back, answer_of};
     ghost use Rattle.journal.specs.Readings.{reading_disk, reading_scan, IsGoing, IsReading};
     ghost use Rattle.journal.specs.Scans.{HasRead};
     ghost use Rattle.journal.specs.Gates.{HasReserved};
-    ghost use Rattle.journal.specs.Settling.{IsPlain, HoldsEither};
+    ghost use Rattle.journal.specs.Settling.{ArePlain, HoldsEither};
     ghost use Rattle.journal.specs.declared.digests.Digests.{Digests as Digested};
     ghost use Rattle.journal.specs.declared.digests.Version.{Version as Named};
     ghost use Rattle.journal.specs.Pieces.{piece_bytes};
-    ghost use Rattle.journal.specs.Journals.{journal_disk, journal_gate, has_failed, IsJournal, IsSettled, Reserves};
+    ghost use Rattle.journal.specs.Journals.{journal_disk, journal_gate, has_failed, IsJournal, IsSettled, Reserves, ReservesFor};
 
     /// Reads the header of a journal, or begins one where there is none yet, and stops before the first record. A
     /// refusal hands the disk back.
@@ -62,6 +62,7 @@ impl<D: Disk> Journal<D> {
         ensures kept { RefusesContent (answer_of result) → D.seen (handed_back reading_disk result) ≡ D.seen disk }
         ensures failed { IsErrOf (answer_of result) disk_fault → Rose (D.faults disk) (D.faults (handed_back reading_disk result)) }
         ensures later { D.faults disk ≤ D.faults (handed_back reading_disk result) }
+        ensures answer { IsOpeningAnswer (answer_of result) }
         ensures reading { IfOk result (λ r. IsReading D.told D.seen D.may_leave r) }
     {
         let mut disk = disk;
@@ -95,22 +96,46 @@ impl<D: Disk> Journal<D> {
         }
     }
 
-    /// Adds a record, for which there is room. After `DiskFailed` it may be there or not, and every further call answers
-    /// the same.
+    /// Makes room for records.
+    pub fn reserve_for(&mut self, piece: &Piece) -> Result<(), NoRoom>
+        requires { IsJournal D.told D.seen self.old }
+        ensures reserved { ReservesFor (journal_gate self.old) (length (piece_bytes piece.now)) (D.room (journal_disk self.new)) result }
+        ensures same { (journal_gate self.new ≡ journal_gate self.old) × (has_failed self.new ≡ has_failed self.old) }
+        ensures seen { D.seen (journal_disk self.new) ≡ D.seen (journal_disk self.old) }
+        ensures still { IsStill (D.moment (journal_disk self.old)) (D.moment (journal_disk self.new)) (D.left_since (journal_disk self.old)) (D.left_since (journal_disk self.new)) (D.may_leave (journal_disk self.old)) (D.may_leave (journal_disk self.new)) }
+        ensures faults { D.faults (journal_disk self.new) ≡ D.faults (journal_disk self.old) }
+        ensures journal { IsJournal D.told D.seen self.new }
+    {
+        let length = piece.bytes.len() as u64;
+        let size = self.gate + 1 + length;
+        if size > LIMIT {
+            return Err(NoRoom::Full { size });
+        }
+        match self.disk.reserve(size, 4, length + 1) {
+            Ok(()) => Ok(()),
+            Err(_) => Err(NoRoom::NoMemory),
+        }
+    }
+
+    /// Adds records, for which there is room, all of them or none. After `DiskFailed` they may be there or not, and every
+    /// further call answers the same.
     pub fn append(&mut self, piece: &Piece) -> Result<(), DiskFailed>
         requires journal { IsJournal D.told D.seen self.old }
         requires room { HasReserved (D.room (journal_disk self.old)) (journal_gate self.old) (length (piece_bytes piece.now)) }
 
-        // A crash at any moment of the call leaves an image that holds the records from before it, with the new one or
-        // without.
-        ensures any_moment { D.told ≡ true → has_failed self.old ≡ false → (digests : Digested) (version : Named) (entries : List Entry) (entry : Entry) →
-            piece_bytes piece.now ≡ bytes_of entry ++ 0 ∷ [] → IsPlain entry → IsSettled D.told D.may_leave digests version entries self.old →
-            LeavesOnly D.moment D.left_since (journal_disk self.old) (journal_disk self.new) (HoldsEither digests entries entry) }
+        // A crash at any moment of the call leaves an image that holds the records from before it, with all of the new
+        // ones or with none.
+        ensures any_moment { D.told ≡ true → has_failed self.old ≡ false → (digests : Digested) (version : Named) (entries batch : List Entry) →
+            IsBatch batch (piece_bytes piece.now) → ArePlain batch → IsSettled D.told D.may_leave digests version entries self.old →
+            LeavesOnly D.moment D.left_since (journal_disk self.old) (journal_disk self.new) (HoldsEither digests entries batch) }
 
-        // At Ok each crash leaves it.
-        ensures appended { D.told ≡ true → (digests : Digested) (version : Named) (entries : List Entry) (entry : Entry) →
-            piece_bytes piece.now ≡ bytes_of entry ++ 0 ∷ [] → IsPlain entry → IsSettled D.told D.may_leave digests version entries self.old →
-            OnOk result (IsSettled D.told D.may_leave digests version (entries ++ entry ∷ []) self.new) }
+        // At Ok each crash leaves them.
+        ensures appended { D.told ≡ true → (digests : Digested) (version : Named) (entries batch : List Entry) →
+            IsBatch batch (piece_bytes piece.now) → ArePlain batch → IsSettled D.told D.may_leave digests version entries self.old →
+            OnOk result (IsSettled D.told D.may_leave digests version (entries ++ batch) self.new) }
+        ensures goes_on { OnOk result (has_failed self.new ≡ false) }
+        ensures gate { OnOk result (journal_gate self.new ≡ journal_gate self.old + length (piece_bytes piece.now)) }
+        ensures gate_stays { OnErr result (journal_gate self.new ≡ journal_gate self.old) }
         ensures failed { OnErr result ((has_failed self.old ≡ true) ⊎ Rose (D.faults (journal_disk self.old)) (D.faults (journal_disk self.new))) }
         ensures fails_on { has_failed self.old ≡ true → IsErr result × (self.new ≡ self.old) }
         ensures fails { OnErr result (has_failed self.new ≡ true) }

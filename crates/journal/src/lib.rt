@@ -7,6 +7,7 @@ mod cut;
 mod digests;
 mod ending;
 mod fault;
+mod first_bodies;
 mod fresh;
 mod header;
 mod journal;
@@ -19,7 +20,6 @@ mod reader;
 mod reading;
 mod record;
 mod scan;
-mod shelf;
 mod synced;
 mod version;
 

@@ -7,10 +7,10 @@ ghost use Rattle.journal.specs.Looks.{ReadsAll, Looks};
 ghost use Rattle.journal.specs.Scans.{HasRead, IsInside};
 ghost use Rattle.journal.specs.Steps.{IsStepAnswer};
 
+use crate::first_bodies::FirstBodies;
 use crate::header::{Front, read_front};
 use crate::reading::read_on;
 use crate::scan::Scan;
-use crate::shelf::Shelf;
 use crate::{Digests, Kept, OpenFault};
 use std::alloc::Global;
 use sv_outside::Disk;
@@ -28,11 +28,11 @@ fn read_records<D: Disk>(alloc: Global, disk: &mut D, scan: Scan) -> Result<Vec<
     ensures room { D.room disk.new ≡ D.room disk.old }
 {
     let mut scan = scan;
-    let mut shelf = Shelf::new(alloc);
+    let mut bodies = FirstBodies::new(alloc);
     loop {
         match read_on(alloc, disk, &mut scan) {
-            Ok(Some(kept)) => shelf.add(alloc, kept)?,
-            Ok(None) => return Ok(shelf.into_records()),
+            Ok(Some(kept)) => bodies.add(alloc, kept)?,
+            Ok(None) => return Ok(bodies.into_records()),
             Err(fault) => return Err(fault),
         }
     }

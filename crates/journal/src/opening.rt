@@ -6,7 +6,7 @@ ghost use Rattle.journal.specs.declared.fault.OpenFault.TheVariants.{Disk as dis
 ghost use Rattle.journal.specs.Format.{at_rest};
 ghost use Rattle.journal.specs.Headers.{header_of, IsUnfinished};
 ghost use Rattle.journal.specs.Lists.{HoldsList};
-ghost use Rattle.journal.specs.Openings.{Opens, BecomesOpen, LeftByOpening, RefusesContent};
+ghost use Rattle.journal.specs.Openings.{Opens, BecomesOpen, LeftByOpening, RefusesContent, IsOpeningAnswer};
 ghost use Rattle.journal.specs.Scans.{HasRead, IsInside};
 
 use crate::cut::cut_synced;
@@ -60,6 +60,7 @@ pub(crate) fn begin<D: Disk>(disk: &mut D, digests: &Digests) -> Result<Scan, Op
     ensures opens { D.told ≡ true → Opens digests.now (D.seen disk.old) result }
     ensures begun { D.told ≡ true → IfOk result (λ scan. HasRead digests.now [] scan (D.seen disk.new)) }
     ensures inside { IfOk result IsInside }
+    ensures answer { IsOpeningAnswer result }
     ensures becomes { D.told ≡ true → OnOk result (BecomesOpen digests.now (D.seen disk.old) (D.seen disk.new)) }
     ensures durable { OnOk result (Only (D.seen disk.new) (D.may_leave disk.new)) }
     ensures any_moment { D.told ≡ true → LeavesOnly D.moment D.left_since disk.old disk.new (LeftByOpening digests.now (D.seen disk.old) (D.may_leave disk.old)) }

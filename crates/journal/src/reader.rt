@@ -33,7 +33,7 @@ impl<D: Disk> Drop for Reading<D> {
 }
 
 impl<D: Disk> Reading<D> {
-    ghost use Rattle.std.specs.Prelude.{◌≡◌, ◌⊎◌, ◌≤◌, List, ℕ, Ok, Err, None, true, false, IfOk, OnErr, IsErrOf};
+    ghost use Rattle.std.specs.Prelude.{◌≡◌, ◌⊎◌, ◌≤◌, ◌∷◌, [], List, ℕ, Ok, Err, None, true, false, IfOk, OnErr, IsErrOf};
     ghost use Rattle.sv_outside.specs.Outside.{Rose};
     ghost use Rattle.sv_outside.specs.Disk.{LeavesOnly};
     ghost use Rattle.journal.specs.declared.digests.Digests.{Digests as Digested};
@@ -43,7 +43,7 @@ impl<D: Disk> Reading<D> {
     ghost use Rattle.journal.specs.Format.{Entry};
     ghost use Rattle.journal.specs.Journals.{journal_disk, has_failed, IsJournal, IsSettled};
     ghost use Rattle.journal.specs.Lists.{versions, version_entry, with_version, wants_version as wants_it};
-    ghost use Rattle.journal.specs.Nexts.{UnlessDone};
+    ghost use Rattle.journal.specs.Nexts.{UnlessDone, PassesOn};
     ghost use Rattle.journal.specs.Openings.{handed_back, answer_of};
     ghost use Rattle.journal.specs.Settling.{HoldsEither};
     ghost use Rattle.journal.specs.Readings.{reading_disk, reading_scan, reading_version, reading_state, IsGoing, IsRefused, HasEnded, IsReading, EndsWith, NextIs, StateAfter};
@@ -61,6 +61,8 @@ impl<D: Disk> Reading<D> {
         ensures kept { UnlessDone result (D.seen (reading_disk self.new) ≡ D.seen (reading_disk self.old)) }
         ensures version { reading_version self.new ≡ reading_version self.old }
         ensures unchanged { IsErrOf result no_memory → reading_scan self.new ≡ reading_scan self.old }
+        ensures further { PassesOn (reading_scan self.old) (reading_scan self.new) result }
+        ensures size { (reading_scan self.new).size ≡ (reading_scan self.old).size }
         ensures state { StateAfter (reading_state self.new) result }
         ensures answer { IsStepAnswer result }
         ensures failed { IsErrOf result disk_fault → Rose (D.faults (reading_disk self.old)) (D.faults (reading_disk self.new)) }
@@ -102,6 +104,10 @@ impl<D: Disk> Reading<D> {
         ensures version { reading_version self.new ≡ reading_version self.old }
         ensures unchanged { IsGoing self.old → IsErrOf result no_memory → (reading_scan self.new ≡ reading_scan self.old) × IsGoing self.new }
         ensures state { IsGoing self.old → StateAfter (reading_state self.new) result }
+
+        // What is read lies behind, also on a disk that tells nothing.
+        ensures further { IsGoing self.old → PassesOn (reading_scan self.old) (reading_scan self.new) result }
+        ensures size { (reading_scan self.new).size ≡ (reading_scan self.old).size }
         ensures refused_again { (fault : Faulted) → IsRefused fault self.old → (result ≡ Err fault) × (self.new ≡ self.old) }
         ensures ended_again { HasEnded self.old → (result ≡ Ok None) × (self.new ≡ self.old) }
         ensures answer { IsStepAnswer result }
@@ -126,7 +132,7 @@ impl<D: Disk> Reading<D> {
 
         // A crash at any moment of the call leaves an image that holds the records, with the version record or without.
         ensures any_moment { D.told ≡ true → (digests : Digested) (entries : List Entry) → EndsWith D.told D.may_leave digests entries self →
-            LeavesOnly D.moment D.left_since (reading_disk self) (handed_back journal_disk result) (HoldsEither digests entries (version_entry digests.current)) }
+            LeavesOnly D.moment D.left_since (reading_disk self) (handed_back journal_disk result) (HoldsEither digests entries (version_entry digests.current ∷ [])) }
         ensures not_failed { IfOk result (λ j. has_failed j ≡ false) }
         ensures failed { IsErrOf (answer_of result) disk_fault → Rose (D.faults (reading_disk self)) (D.faults (handed_back journal_disk result)) }
         ensures refused { OnErr result (IsErrOf (answer_of result) disk_fault ⊎ IsErrOf (answer_of result) no_memory) }

@@ -67,6 +67,7 @@ pub(crate) fn advance<D: Disk>(
     ensures answer { IsStepAnswer result }
     ensures inside { IsInside scan.new }
     ensures same { (scan.new.size ≡ scan.old.size) × (scan.new.version ≡ scan.old.version) }
+    ensures further { PassesOn scan.old scan.new result }
     ensures place { D.told ≡ true → IfEnded result (scan.new.at + 1 ≤ length (D.seen disk.new)) }
     ensures failed { IsErrOf result disk_fault → Rose (D.faults disk.old) (D.faults disk.new) }
     ensures later { D.faults disk.old ≤ D.faults disk.new }

@@ -3,7 +3,7 @@ ghost use Rattle.sv_outside.specs.Outside.{Rose};
 ghost use Rattle.sv_outside.specs.Disk.{Only, LeavesOnly};
 ghost use Rattle.journal.specs.declared.digests.Version.TheVariants.{First as version_1};
 ghost use Rattle.journal.specs.declared.fault.OpenFault.TheVariants.{Disk as disk_fault, NoMemory as no_memory};
-ghost use Rattle.journal.specs.Format.{Entry, bytes_of, opened, at_rest, Rests, IsBeforeOrAfter};
+ghost use Rattle.journal.specs.Format.{Entry, opened, at_rest, Rests, IsBatch, IsBeforeOrAfter};
 ghost use Rattle.journal.specs.Lists.{version_entry};
 ghost use Rattle.journal.specs.Scans.{IsInside};
 
@@ -31,7 +31,7 @@ pub(crate) fn wants_version(scan: &Scan) -> bool
 
 // The bytes of a version record behind its gate, and the closed gate of the next record.
 fn version_bytes(current: &[u8; 32]) -> [u8; 45]
-    ensures bytes { result ≡ bytes_of (version_entry current.now) ++ 0 ∷ [] }
+    ensures bytes { IsBatch (version_entry current.now ∷ []) result }
     ensures len { length result ≡ 45 }
 {
     let mut bytes = [0; 45];
@@ -49,7 +49,7 @@ pub(crate) fn add_version<D: Disk>(
     requires place { D.told ≡ true → gate + 1 ≤ length (D.seen disk.old) }
     requires short { gate + 46 ≤ 2 ^ 31 }
     ensures any_moment { D.told ≡ true → (header : List ℕ) (entries : List Entry) (now : List ℕ) → length (header ++ opened entries) ≡ gate → Rests header entries now → Only now (D.may_leave disk.old)
-        → LeavesOnly D.moment D.left_since disk.old disk.new (IsBeforeOrAfter header entries (version_entry current.now)) }
+        → LeavesOnly D.moment D.left_since disk.old disk.new (IsBeforeOrAfter header entries (version_entry current.now ∷ [])) }
     ensures appended { D.told ≡ true → (header : List ℕ) (entries : List Entry) (now : List ℕ) → length (header ++ opened entries) ≡ gate → Rests header entries now → Only now (D.may_leave disk.old)
         → OnOk result (Only (at_rest header (entries ++ version_entry current.now ∷ [])) (D.may_leave disk.new)) }
     ensures digest { length current.now ≡ 32 }

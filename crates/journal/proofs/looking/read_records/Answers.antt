@@ -3,7 +3,7 @@ use Rattle.journal.specs.declared.kept.Kept.{Kept}
 use Rattle.journal.specs.declared.digests.Version.{Version}
 use Rattle.journal.specs.Looks.{Lists}
 use Rattle.journal.specs.Nexts.{HandsOut, ComesToEnd, ReadsOn}
-use Rattle.journal.specs.Shelved.{shelf_records}
+use Rattle.journal.specs.Bodies.{records_in}
 use Rattle.journal.specs.Steps.{entry_of}
 use Rattle.journal.proofs.Listing.{again_on, lists_more, lists_all, refuses_all}
 use Rattle.journal.proofs.looking.read_records.Goals as goal
@@ -21,7 +21,7 @@ loop-kept-preserved g c = record {
       let reads = again_on digests prior.0 c.loop-kept.scan.version c.loop-kept.scan new image (g.D.Disk.seen c.loop-kept.disk) (Ok c.in-Ok-Some.field-0) c.loop-kept.invariant.seen prior.1 (c.in-Ok-Some.ensures.reads told digests prior.0) in
       let in_version = subst (λ (v : Version). ReadsOn digests prior.0 v image new (Ok c.in-Ok-Some.field-0)) c.loop-kept.invariant.version reads in
       let out : HandsOut digests prior.0 c.args.scan.version c.in-Ok-Some.kept image new = subst (λ (o : Option Kept). ReadsOn digests prior.0 c.args.scan.version image new (Ok o)) c.in-Ok-Some.field-0-is in_version in
-      ((prior.0 ++ out.passed) ++ entry_of c.in-Ok-Some.kept ∷ [], out.read, lists_more digests prior.0 c.args.scan.version c.in-Ok-Some.kept image new (shelf_records c.loop-kept.shelf) (shelf_records c.add.new.self) out prior.2 c.in_ok-add-in-Ok-Some.ensures.gains);
+      ((prior.0 ++ out.passed) ++ entry_of c.in-Ok-Some.kept ∷ [], out.read, lists_more digests prior.0 c.args.scan.version c.in-Ok-Some.kept image new (records_in c.loop-kept.bodies) (records_in c.add.new.self) out prior.2 c.in_ok-add-in-Ok-Some.ensures.gains);
   seen = c.read_on.ensures.seen ∙ c.loop-kept.invariant.seen;
   still = search rules;
   later = omega (arith, c.loop-kept.invariant.later, c.read_on.ensures.later);

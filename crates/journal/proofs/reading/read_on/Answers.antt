@@ -90,10 +90,12 @@ returns-in-Ok-Closed-step-clause-ended g c = λ told.
     subst (λ (s : Scan). IsClosed (drop s.at image)) (sym stops.1) closed
 
 pub returns-in-Ok-Record-clause-further : goal.returns-in-Ok-Record-clause-further
-returns-in-Ok-Record-clause-further g c = subst (λ (s : Step). GoesFurther c.args.scan.now c.step.new.scan (Ok s)) c.in-Ok-Record.field-0-is c.in-Ok-Record.ensures.further
+returns-in-Ok-Record-clause-further g c =
+    let read = subst (λ (s : Step). GoesFurther c.args.scan.now c.step.new.scan (Ok s)) c.in-Ok-Record.field-0-is c.in-Ok-Record.ensures.further in
+    (omega (arith, read.0), read.1)
 
 pub returns-in-Ok-Record-step-clause-further : goal.returns-in-Ok-Record-step-clause-further
 returns-in-Ok-Record-step-clause-further g c =
     let one : c.args.scan.now.at < c.step.new.scan.at = subst (λ (s : Step). GoesFurther c.args.scan.now c.step.new.scan (Ok s)) c.in-Ok-Version.field-0-is c.in-Ok-Version.ensures.further in
-    let two : c.step.new.scan.at < c.step-2.new.scan.at = subst (λ (s : Step). GoesFurther c.step.new.scan c.step-2.new.scan (Ok s)) c.in-Ok-Record-step.field-0-is c.in-Ok-Record-step.ensures.further in
-    omega (arith, one, two)
+    let two = subst (λ (s : Step). GoesFurther c.step.new.scan c.step-2.new.scan (Ok s)) c.in-Ok-Record-step.field-0-is c.in-Ok-Record-step.ensures.further in
+    (omega (arith, one, two.0), two.1)

@@ -6,7 +6,7 @@ use Rattle.journal.specs.Headers.{header_for}
 use Rattle.journal.specs.Lists.{versions, version_entry, HoldsList, wants_version, with_version}
 use Rattle.journal.specs.Readings.{EndsWith}
 use Rattle.journal.specs.Settling.{Settled, HoldsEither}
-use Rattle.journal.proofs.Crash.{gate_after, rests_after}
+use Rattle.journal.proofs.Crash.{one_length, gate_after, rests_after}
 use Rattle.journal.proofs.Holding.{holds_either}
 use Rattle.journal.proofs.Moments.{started, weaker}
 use Rattle.journal.proofs.Wanting.{wants_yes, wants_not, fit_version, rest_holds, version_long}
@@ -28,13 +28,13 @@ returns-then-not-wants_version-clause-any_moment g c = λ told digests entries e
     let scan = c.args.self.scan in
     let disk = c.args.self.disk in
     let rests = ends.settled.rests told in
-    started g.D.Disk.moment g.D.Disk.left_since disk (HoldsEither digests entries (version_entry digests.current))
+    started g.D.Disk.moment g.D.Disk.left_since disk (HoldsEither digests entries (version_entry digests.current ∷ []))
     (λ x left. inl (subst (HoldsList digests entries) (sym (rests.2 x (g.met.D.Disk.only_now disk x left)))
     (rest_holds g.D.Disk.told (g.D.Disk.may_leave disk) digests scan.version entries scan.at rests.0 c.requires.reading.inside.near ends.settled rests.1)))
 
 -- the version record that was added
 abbrev added : (g : Over) (c : After-add_version g) (digests : Digests) (entries : List Entry) → Type 0
-added g c digests entries = LeavesOnly g.D.Disk.moment g.D.Disk.left_since c.args.self.disk c.add_version.new.disk (HoldsEither digests entries (version_entry digests.current))
+added g c digests entries = LeavesOnly g.D.Disk.moment g.D.Disk.left_since c.args.self.disk c.add_version.new.disk (HoldsEither digests entries (version_entry digests.current ∷ []))
 
 adds : (g : Over) (c : After-add_version g) → g.D.Disk.told ≡ true → (digests : Digests) (entries : List Entry) → EndsWith g.D.Disk.told g.D.Disk.may_leave digests entries c.args.self → added g c digests entries
 adds g c told digests entries ends =
@@ -48,10 +48,10 @@ adds g c told digests entries ends =
     let says = c.wants_version.ensures.0 may in
     let none : versions entries ≡ [] = ends.versioned ∙ ap (λ b. if b then entry ∷ [] else []) says.1 in
     let long : length digests.current ≡ 32 = subst (λ (l : List ℕ). length l ≡ 32) ends.current c.add_version.ensures.digest in
-    let crash = subst (λ (l : List ℕ). LeavesOnly g.D.Disk.moment g.D.Disk.left_since disk new (IsBeforeOrAfter header entries (version_entry l))) ends.current
+    let crash = subst (λ (l : List ℕ). LeavesOnly g.D.Disk.moment g.D.Disk.left_since disk new (IsBeforeOrAfter header entries (version_entry l ∷ []))) ends.current
     (c.add_version.ensures.any_moment told header entries rests.0 ends.settled.gate_is rests.1 rests.2) in
-    weaker g.D.Disk.moment g.D.Disk.left_since disk new (IsBeforeOrAfter header entries entry) (HoldsEither digests entries entry) crash
-    (λ x either. holds_either digests scan.version entries entry x ends.settled.accepted ends.settled.fit (fit_version scan.version digests.current entries says.0 none long ends.settled.fit) either)
+    weaker g.D.Disk.moment g.D.Disk.left_since disk new (IsBeforeOrAfter header entries (entry ∷ [])) (HoldsEither digests entries (entry ∷ [])) crash
+    (λ x either. holds_either digests scan.version entries (entry ∷ []) x ends.settled.accepted ends.settled.fit (fit_version scan.version digests.current entries says.0 none long ends.settled.fit) either)
 
 pub returns-in-Ok-clause-settled : goal.returns-in-Ok-clause-settled
 returns-in-Ok-clause-settled g c = λ told digests entries ends.
@@ -68,10 +68,10 @@ returns-in-Ok-clause-settled g c = λ told digests entries ends.
     subst (λ b. Settled g.D.Disk.told images digests scan.version (with_version b digests.current entries) (scan.at + 45)) (sym wants) (record {
       accepted = ends.settled.accepted;
       fit = fit_version scan.version digests.current entries says.0 none long ends.settled.fit;
-      gate_is = gate_after header entries entry scan.at 45 ends.settled.gate_is (version_long digests.current long);
+      gate_is = gate_after header entries (entry ∷ []) scan.at 45 ends.settled.gate_is (one_length entry ∙ sym (version_long digests.current long));
       rests = λ told'. let rests = ends.settled.rests told in (
         at_rest header (entries ++ entry ∷ []),
-        rests_after header entries entry,
+        rests_after header entries (entry ∷ []),
         subst (λ (l : List ℕ). Only (at_rest header (entries ++ version_entry l ∷ [])) images) ends.current (c.in-Ok.ensures.appended told header entries rests.0 ends.settled.gate_is rests.1 rests.2),
       );
     })

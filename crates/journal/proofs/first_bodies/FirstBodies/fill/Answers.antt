@@ -1,7 +1,7 @@
-use Rattle.journal.specs.Shelves.{given}
+use Rattle.journal.specs.Keys.{given}
 use Rattle.journal.specs.Steps.{entry_of}
 use Rattle.journal.proofs.Firsts.{none_before, as_it_is}
-use Rattle.journal.proofs.shelf.Shelf.fill.Goals as goal
+use Rattle.journal.proofs.first_bodies.FirstBodies.fill.Goals as goal
 
 pub returns-then-kept-eq0-clause-filled : goal.returns-then-kept-eq0-clause-filled
 returns-then-kept-eq0-clause-filled c =
