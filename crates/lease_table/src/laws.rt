@@ -1,11 +1,15 @@
 //! What holds over every run: any list of claims, publications, returns, expirations, new rounds and crashes, from the
 //! first round on. Each law is the contract of a function that does nothing.
 ghost use Rattle.std.specs.Prelude.{◌≡◌, ℕ, ◌+◌, ◌<◌, ◌++◌, ◌∷◌, [], List, IsSome, Some, length, slice_get, slice_index};
+ghost use Rattle.lease_table.specs.declared.event.Event.TheVariants as events;
+ghost use Rattle.lease_table.specs.declared.standing.Abandoned.TheVariants.{Freed};
 ghost use Rattle.lease_table.specs.declared.standing.Claimed.TheVariants.{Work};
+ghost use Rattle.lease_table.specs.declared.standing.Published.TheVariants.{Stored};
 ghost use Rattle.lease_table.specs.declared.standing.Standing.TheVariants.{Done};
+ghost use Rattle.lease_table.specs.Events.{after};
 ghost use Rattle.lease_table.specs.Standings.{standing_at};
 ghost use Rattle.lease_table.specs.Runs.{World, Step, Claim, Runs, begun, artifact_of, StaysDone, HasNoCrash, IsTicketBelow, IsReopened, IsInRoundOrder, Publication};
-ghost use Rattle.lease_table.specs.Machine.{Machine, started, Keeps, Advances};
+ghost use Rattle.lease_table.specs.Machine.{Machine, started, lease_end, Keeps, Claims, Publishes, Abandons, Expires, Advances, Ends};
 
 /// A published artifact never changes, and a crash keeps it.
 pub fn artifacts_stay()
@@ -50,4 +54,18 @@ pub fn kept_one_by_one()
         IsInRoundOrder published → IsReopened rounds published old →
         Advances (slice_index rounds (old.round + 1)) old mid → Keeps task mid new →
         IsReopened rounds (record { round = mid.round; task = task; artifact = artifact } ∷ published) new }
+{}
+
+/// Each step that changes the machine is an event, which makes of the machine what the step leaves.
+pub fn steps_are_events()
+    ensures keep { (task : ℕ) (old new : Machine) → Keeps task old new → new ≡ after old (events.Kept task) }
+    ensures claim { (now term task ticket : ℕ) (old new : Machine) → Claims now term old (Work task ticket) new →
+        new ≡ after old (events.Claimed task (lease_end now term)) }
+    ensures publish { (round task ticket : ℕ) (old new : Machine) → Publishes round task ticket old Stored new →
+        new ≡ after old (events.Published round task ticket) }
+    ensures abandon { (round task ticket : ℕ) (old new : Machine) → Abandons round task ticket old Freed new →
+        new ≡ after old (events.Abandoned task) }
+    ensures expire { (now freed : ℕ) (old new : Machine) → Expires now old freed new → new ≡ after old (events.Expired now) }
+    ensures advance { (tasks : ℕ) (old new : Machine) → Advances tasks old new → new ≡ after old (events.Advanced tasks) }
+    ensures ends { (old new : Machine) → Ends old new → new ≡ after old events.Ended }
 {}

@@ -1,5 +1,5 @@
-ghost use Rattle.std.specs.Prelude.{◌≡◌, ◌+◌, ◌-◌, ◌^◌, ◌<◌, ◌≤◌, false, length, replicate, IfOk, OnOk, OnErr, slice_get, Some};
-ghost use Rattle.lease_table.specs.Standings.{AllDone};
+ghost use Rattle.std.specs.Prelude.{◌≡◌, ◌+◌, ◌-◌, ◌^◌, ◌<◌, ◌≤◌, true, false, length, replicate, IfOk, OnOk, OnErr, slice_get, Some};
+ghost use Rattle.lease_table.specs.Standings.{AllDone, SomeNotDone};
 ghost use Rattle.lease_table.specs.Machine.{started, found_standing, Claims, Publishes, Abandons, Expires, Advances, Ends, Keeps};
 
 use crate::tasks::Tasks;
@@ -60,6 +60,21 @@ impl Lease {
         self.round
     }
 
+    /// How many tasks the round has.
+    pub fn tasks(&self) -> u32
+        ensures count { result ≡ length self.now.machine.tasks }
+    {
+        self.tasks.len()
+    }
+
+    /// Whether each task of the round is done.
+    pub fn is_round_done(&self) -> bool
+        ensures all { result ≡ true → AllDone self.now.machine.tasks }
+        ensures some { result ≡ false → SomeNotDone self.now.machine.tasks }
+    {
+        self.tasks.all_done()
+    }
+
     /// Where a task of the round stands.
     pub fn standing(&self, task: u32) -> Standing
         requires { task < length self.now.machine.tasks }
@@ -118,8 +133,8 @@ impl Lease {
         }
     }
 
-    // Where the task stands, if it is one of the current round.
-    fn found(&self, round: u32, task: u32) -> Option<Standing>
+    /// Where the task stands, if it is one of the current round.
+    pub fn found(&self, round: u32, task: u32) -> Option<Standing>
         ensures { result ≡ found_standing self.now.machine round task }
     {
         if round == self.round {

@@ -174,6 +174,12 @@ impl Tasks {
         index(&mut self.times, leaves, &self.standings);
     }
 
+    pub(crate) fn len(&self) -> u32
+        ensures { result ≡ length self.now.standings }
+    {
+        self.standings.len() as u32
+    }
+
     pub(crate) fn get(&self, task: u32) -> Option<Standing>
         ensures { result ≡ slice_get self.now.standings task }
     {
