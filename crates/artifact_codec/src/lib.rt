@@ -12,8 +12,6 @@ mod reading_summary;
 mod records;
 mod refusal;
 mod spelled;
-#[cfg(test)]
-mod tests;
 mod window;
 mod writing;
 mod writing_summary;

@@ -14,8 +14,6 @@ mod shape;
 mod space;
 mod spot;
 mod step;
-#[cfg(test)]
-mod tests;
 
 pub use laws::tokens_are_unique;
 pub use lexer::lex;

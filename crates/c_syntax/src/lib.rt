@@ -3,8 +3,6 @@
 
 mod keyword;
 pub mod marks;
-#[cfg(test)]
-mod tests;
 mod token;
 pub mod words;
 

@@ -8,8 +8,6 @@ mod fitting;
 mod int_type;
 mod operator;
 mod shift;
-#[cfg(test)]
-mod tests;
 mod unary;
 
 pub use binary::apply;

@@ -6,8 +6,6 @@ mod command;
 mod fields;
 mod numbers;
 mod options;
-#[cfg(test)]
-mod tests;
 mod words;
 
 pub use options::{Command, Settings};

@@ -1,3 +1,2 @@
 pub mod Tightening
 pub mod Together
-mod Examples

@@ -7,6 +7,3 @@ mod pending;
 
 pub use one_bound::tighten;
 pub use pending::Pending;
-
-#[cfg(test)]
-mod tests;

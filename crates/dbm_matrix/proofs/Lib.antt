@@ -4,7 +4,6 @@ mod Rows
 pub mod Paths
 pub mod Closure
 mod Written
-mod Examples
 pub mod Merging
 pub mod Assigning
 pub mod Choosing

@@ -10,6 +10,3 @@ mod values;
 
 pub use closing::Closing;
 pub use matrix::Matrix;
-
-#[cfg(test)]
-mod tests;

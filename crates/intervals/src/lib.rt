@@ -13,8 +13,6 @@ mod products;
 mod quotients;
 mod remainders;
 mod shifts;
-#[cfg(test)]
-mod tests;
 mod unary_forms;
 
 pub use binary_forms::binary;

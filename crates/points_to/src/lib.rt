@@ -14,8 +14,6 @@ mod readers;
 mod rule;
 mod solving;
 mod table;
-#[cfg(test)]
-mod tests;
 
 pub use bits::Bits;
 pub use closure::closed;

@@ -7,8 +7,6 @@ mod facts;
 mod laws;
 mod nodes;
 mod starts;
-#[cfg(test)]
-mod tests;
 
 pub use facts::constraints;
 pub use laws::programs_that_fit_have_room;

@@ -9,6 +9,3 @@ mod top;
 mod words;
 
 pub use top::survey_alone;
-
-#[cfg(test)]
-mod tests;

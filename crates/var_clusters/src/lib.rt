@@ -4,7 +4,5 @@
 mod gathering;
 mod pairs;
 mod partition;
-#[cfg(test)]
-mod tests;
 
 pub use gathering::clusters;
