@@ -13,8 +13,8 @@ import tempfile
 import time
 
 TOP = os.path.dirname(os.path.dirname(os.path.abspath(__file__)))
-CRATE = os.path.join(TOP, "crates", "journal_bench")
-PROGRAM = os.path.join(CRATE, "out", "journal_bench")
+CRATE = os.path.join(TOP, "crates", "measure")
+PROGRAM = os.path.join(CRATE, "out", "measure")
 RECORDS = 500
 BODY = 64
 
@@ -57,9 +57,9 @@ def write_journal(name, size, body):
 def append_rates(work):
     """Records a second that the journal appends, without the start of the program, and that bare calls write."""
     name = os.path.join(work, "a.db")
-    seconds([PROGRAM, "append", name, "0", str(BODY)])
-    start = seconds([PROGRAM, "append", name, "0", str(BODY)])
-    own = seconds([PROGRAM, "append", name, str(RECORDS), str(BODY)]) - start
+    seconds([PROGRAM, "journal", "append", name, "0", str(BODY)])
+    start = seconds([PROGRAM, "journal", "append", name, "0", str(BODY)])
+    own = seconds([PROGRAM, "journal", "append", name, str(RECORDS), str(BODY)]) - start
     return RECORDS / own, RECORDS / bare_syncs(os.path.join(work, "bare"))
 
 
@@ -68,7 +68,7 @@ def open_rates(name, size, body):
     count = write_journal(name, size, body)
     megabytes = os.path.getsize(name) / 1e6
     seconds(["cat", name])
-    own = min(seconds([PROGRAM, "read", name]) for _ in range(3))
+    own = min(seconds([PROGRAM, "journal", "read", name]) for _ in range(3))
     peer = min(seconds(["cat", name]) for _ in range(3))
     os.remove(name)
     return count, megabytes / own, megabytes / peer
@@ -80,7 +80,7 @@ def main():
     print(f"load      {os.getloadavg()[0]:.0f} on {os.cpu_count()} processors")
     with tempfile.TemporaryDirectory(dir=folder) as work:
         if not os.path.exists(PROGRAM):
-            words = ["rt", "run", "--", "read", os.path.join(work, "first.db")]
+            words = ["rt", "run", "--", "journal", "read", os.path.join(work, "first.db")]
             subprocess.run(words, cwd=CRATE, check=True, stdout=subprocess.DEVNULL)
         own, bare = append_rates(work)
         print(f"append    {own:6.0f} records/s   bare {bare:6.0f} records/s   ratio {own / bare:.2f}")

@@ -9,13 +9,13 @@ import subprocess
 import time
 
 TOP = os.path.dirname(os.path.dirname(os.path.abspath(__file__)))
-CRATE = os.path.join(TOP, "crates", "dbm_bench")
-PROGRAM = os.path.join(CRATE, "out", "dbm_bench")
+CRATE = os.path.join(TOP, "crates", "measure")
+PROGRAM = os.path.join(CRATE, "out", "measure")
 
 
 def seconds(operation, size, count):
     """The least time of three runs."""
-    words = [PROGRAM, operation, str(size), str(count)]
+    words = [PROGRAM, "matrices", operation, str(size), str(count)]
     times = []
     for _ in range(3):
         begin = time.perf_counter()
@@ -36,7 +36,7 @@ def nanoseconds(operation, size):
 
 def main():
     if not os.path.exists(PROGRAM):
-        subprocess.run(["rt", "run", "--", "close", "2", "0"], cwd=CRATE, check=True, stdout=subprocess.DEVNULL)
+        subprocess.run(["rt", "run", "--", "matrices", "close", "2", "0"], cwd=CRATE, check=True, stdout=subprocess.DEVNULL)
     print("variables   close ns   tighten ns   ratio")
     for size in (2, 4, 8, 16):
         close, tighten = nanoseconds("close", size), nanoseconds("tighten", size)

@@ -1,5 +1,5 @@
 // The peer of bench/points_to.py: inclusion-based points-to sets by a worklist with difference propagation, over hash sets.
-// It reads the same file as points_to_bench and writes the same line.
+// It reads the same file as `measure points time` and writes the same line.
 #include <algorithm>
 #include <chrono>
 #include <cstdint>

@@ -13,8 +13,8 @@ import sys
 import tempfile
 
 TOP = os.path.dirname(os.path.dirname(os.path.abspath(__file__)))
-CRATE = os.path.join(TOP, "crates", "points_to_bench")
-PROGRAM = os.path.join(CRATE, "out", "points_to_bench")
+CRATE = os.path.join(TOP, "crates", "measure")
+PROGRAM = os.path.join(CRATE, "out", "measure")
 ADDRESS, COPY, LOAD, STORE = 1, 2, 3, 4
 
 
@@ -106,7 +106,7 @@ def measure(name, folder, peer):
     with open(os.path.join(folder, "input"), "w", encoding="ascii") as file:
         file.write(f"{registers} {regions}\n")
         file.writelines(f"{rule} {target} {source} 0\n" for rule, target, source in constraints)
-    taken, answer = solved([PROGRAM, "time"], file.name)
+    taken, answer = solved([PROGRAM, "points", "time"], file.name)
     plain, other = solved([peer], file.name)
     if answer != other:
         sys.exit(f"{name}: {' '.join(answer)}, but the plain solver has {' '.join(other)}")
@@ -117,7 +117,7 @@ def measure(name, folder, peer):
 
 def main():
     if not os.path.exists(PROGRAM):
-        subprocess.run(["rt", "run", "--", "list", "data/small"], cwd=CRATE, check=True, stdout=subprocess.DEVNULL)
+        subprocess.run(["rt", "run", "--", "points", "list", "data/circle"], cwd=CRATE, check=True, stdout=subprocess.DEVNULL)
     with tempfile.TemporaryDirectory() as folder:
         peer = os.path.join(folder, "peer")
         source = os.path.join(TOP, "bench", "points_to.cpp")

@@ -15,8 +15,8 @@ import sys
 from beside_gcc import SOURCE, compare, measure, tell
 
 TOP = os.path.dirname(os.path.dirname(os.path.abspath(__file__)))
-CRATE = os.path.join(TOP, "crates", "lex_bench")
-PROGRAM = os.path.join(CRATE, "out", "lex_bench")
+CRATE = os.path.join(TOP, "crates", "measure")
+PROGRAM = os.path.join(CRATE, "out", "measure")
 LIMIT = 16_777_216
 # Names of basic types stand in one place: gcc takes time by the square of their number.
 HEAD = """\
@@ -112,7 +112,7 @@ def source(length):
 
 def cut(folder):
     """Of one run: its measure, seconds of cutting alone, tokens, and bytes of a `Token`."""
-    measured = measure([PROGRAM, "time", SOURCE], folder, "output")
+    measured = measure([PROGRAM, "tokens", "time", SOURCE], folder, "output")
     if measured[2] != 0:
         sys.exit(f"{PROGRAM} ended with status {measured[2]}")
     with open(os.path.join(folder, "output"), encoding="ascii") as file:
@@ -123,7 +123,7 @@ def cut(folder):
 def lexer(folder):
     """The least of three runs of the program, which is built first where it is missing."""
     if not os.path.exists(PROGRAM):
-        words = ["rt", "run", "--", "list", "data/small.c", "100"]
+        words = ["rt", "run", "--", "tokens", "list", "data/small.c", "100"]
         subprocess.run(words, cwd=CRATE, check=True, stdout=subprocess.DEVNULL)
     return min(cut(folder) for _ in range(3))
 

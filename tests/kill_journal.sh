@@ -5,7 +5,7 @@
 # usage: tests/kill_journal.sh [ROUNDS]
 set -u
 cd "$(dirname "$0")/.." || exit 1
-program=$PWD/crates/journal_bench/out/journal_bench
+program=$PWD/crates/measure/out/measure
 rounds=${1:-10}
 records=1000
 body=50
@@ -14,16 +14,16 @@ trap 'rm -rf "$work"' EXIT
 failed=0
 
 if [ ! -x "$program" ]; then
-    (cd crates/journal_bench && rt run >/dev/null 2>&1)
+    (cd crates/measure && rt run >/dev/null 2>&1)
 fi
-"$program" append "$work/first.db" 1 $body >/dev/null 2>&1 || { echo "skipped: the program cannot be built or run"; exit 0; }
+"$program" journal append "$work/first.db" 1 $body >/dev/null 2>&1 || { echo "skipped: the program cannot be built or run"; exit 0; }
 sleep 5 &
 { kill -9 $! && ! wait $!; } 2>/dev/null || { echo "skipped: no process can be killed"; exit 0; }
 
 for round in $(seq "$rounds"); do
     rm -f "$work/a.db"
     : >"$work/lines"
-    "$program" append "$work/a.db" $records $body >"$work/lines" &
+    "$program" journal append "$work/a.db" $records $body >"$work/lines" &
     child=$!
     wanted=$((RANDOM % records))
     while [ "$(wc -l <"$work/lines")" -lt $wanted ] && kill -0 $child 2>/dev/null; do
@@ -33,7 +33,7 @@ for round in $(seq "$rounds"); do
     kill -9 $child 2>/dev/null
     wait $child 2>/dev/null
     acknowledged=$(grep -c '^appended [0-9]*$' "$work/lines")
-    found=$("$program" check "$work/a.db" | sed -n 's/^records \([0-9]*\) .*/\1/p')
+    found=$("$program" journal check "$work/a.db" | sed -n 's/^records \([0-9]*\) .*/\1/p')
     if [ -n "$found" ] && [ "$found" -ge "$acknowledged" ] && [ "$found" -le $((acknowledged + 1)) ]; then
         echo "round $round: $acknowledged acknowledged, $found found"
     else

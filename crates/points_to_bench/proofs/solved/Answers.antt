@@ -1,4 +1,0 @@
-use Rattle.points_to_bench.proofs.solved.Goals as goal
-
-pub solve-requires : goal.solve-requires
-solve-requires c = c.fits.ensures.0 c.if-not-fits.false
