@@ -9,9 +9,10 @@ use Rattle.points_to.specs.declared.progress.Progress.{Progress}
 use Rattle.points_to.specs.Sets.{has}
 use Rattle.points_to.specs.Families.{Relation, Has, family_of}
 use Rattle.points_to.specs.Rules.{Demands, IsCopied, rule_of, leaves_in, parts_in, entry_node, result_node}
-use Rattle.points_to.specs.Tests.{Each, TakesLeaves, GivesLeaves, TakesParts, TakesLeaf, TakesLike, TakesLayouts, TakesObject, TakesObjects}
+use Rattle.points_to.specs.RuleParts.{Each, TakesLeaves, GivesLeaves, TakesParts, TakesObject, TakesObjects}
 use Rattle.points_to.specs.Progress.{IsMet, edges_of, known_of}
 use Rattle.points_to.specs.Readers.{reads_target, reads_source}
+use Rattle.points_to.proofs.Copied.{copied_one, copied_all}
 use Rattle.points_to.proofs.Each.{has_place, place_has}
 use Rattle.points_to.proofs.Steps.{Lasts, asked_as, at_here}
 use Rattle.points_to.proofs.Links.{AskedEdge, same_some}
@@ -34,31 +35,6 @@ demands_last t r c T S p q kept =
     demands_fewer t r c T S T S (Has (edges_of p)) (Has (known_of p)) (Has (edges_of q)) (Has (known_of q)) (λ x h. h) (λ y h. h) kept.edges kept.known
 
 -- ---- one member
-
-pub copied_one : (t : ClassTable) (flows : Relation) (layout x y to from : ℕ) → TakesObject t flows layout x y → IsCopied t layout x y to from → flows from to
-unfolding TakesObject TakesLayouts TakesLike TakesLeaf
-copied_one t flows layout x y to from h m =
-    h m.from_place m.from_part m.from_found m.from_type m.to_place m.to_part m.to_found m.to_type m.leaf_place m.to_leaf m.from_leaf m.to_leaf_found m.from_leaf_found to m.to_node from m.from_node
-
-pub copied_all : (t : ClassTable) (flows : Relation) (layout x y : ℕ) → ((to from : ℕ) → IsCopied t layout x y to from → flows from to) → TakesObject t flows layout x y
-unfolding TakesObject TakesLayouts TakesLike TakesLeaf
-copied_all t flows layout x y all a source source_found source_type d target target_found target_type k to_leaf from_leaf to_found from_found to to_node from from_node = all to from (record {
-  to_place = d;
-  to_part = target;
-  to_found = target_found;
-  to_type = target_type;
-  from_place = a;
-  from_part = source;
-  from_found = source_found;
-  from_type = source_type;
-  leaf_place = k;
-  to_leaf = to_leaf;
-  to_leaf_found = to_found;
-  to_node = to_node;
-  from_leaf = from_leaf;
-  from_leaf_found = from_found;
-  from_node = from_node;
-})
 
 module _ (t : ClassTable) (c : Constraint) (member : ℕ) (p q : Progress) (S : ℕ → Type 0) where
   abbrev One : ℕ → Type 0

@@ -6,6 +6,7 @@ pub mod Lowest
 pub mod Merging
 pub mod Views
 pub mod Each
+pub mod Copied
 pub mod Meeting
 pub mod Found
 pub mod Steps

@@ -7,7 +7,8 @@ use Rattle.points_to.specs.declared.rule.Rule.{Rule}
 use Rattle.points_to.specs.declared.rule.Rule.TheVariants as rules
 use Rattle.points_to.specs.Families.{Relation, Has, Flows, family_of}
 use Rattle.points_to.specs.Rules.{Demands, Meets, rule_of, layouts_in}
-use Rattle.points_to.specs.Tests.{Each, TakesLeaves, GivesLeaves, TakesParts, TakesLeaf, TakesLike, TakesLayouts, TakesObject, TakesObjects, GivesEntry, TakesResult}
+use Rattle.points_to.specs.RuleParts.{Each, TakesLeaves, GivesLeaves, TakesParts, TakesLayouts, TakesObject, TakesObjects, GivesEntry, TakesResult}
+use Rattle.points_to.proofs.Copied.{copied_one, copied_all}
 use Rattle.points_to.proofs.Each.{has_place, place_has}
 
 module _ (t : ClassTable) (sets : List (List ℕ)) (c : Constraint) (b : Bool) where
@@ -37,31 +38,14 @@ module _ (t : ClassTable) (sets : List (List ℕ)) (c : Constraint) (b : Bool) w
 
   pub copy_meets : IsTrue b ↔ Each (slice_index_or sets c.target []) (λ x. TakesObjects t (Flows (family_of sets)) c.third x (slice_index_or sets c.source []))
       → IsTrue b ↔ Demands t rules.ObjectCopy c (Has (family_of sets) c.target) (Has (family_of sets) c.source) (Flows (family_of sets)) (Has (family_of sets))
-  unfolding TakesObjects TakesObject TakesLayouts TakesLike TakesLeaf
+  unfolding TakesObjects
   copy_meets (f, g) = (
     (λ s x y to from hx hy m.
         let r = has_place (slice_index_or sets c.target []) x hx in
         let q = has_place (slice_index_or sets c.source []) y hy in
-        f s r.0 x r.1 q.0 y q.1 m.from_place m.from_part m.from_found m.from_type m.to_place m.to_part m.to_found m.to_type
-        m.leaf_place m.to_leaf m.from_leaf m.to_leaf_found m.from_leaf_found to m.to_node from m.from_node),
-    (λ all. g (λ i x s j y q a source source_found source_type d target target_found target_type k to_leaf from_leaf to_found from_found to to_node from from_node.
-        all x y to from (place_has (slice_index_or sets c.target []) i x s) (place_has (slice_index_or sets c.source []) j y q) (record {
-          to_place = d;
-          to_part = target;
-          to_found = target_found;
-          to_type = target_type;
-          from_place = a;
-          from_part = source;
-          from_found = source_found;
-          from_type = source_type;
-          leaf_place = k;
-          to_leaf = to_leaf;
-          to_leaf_found = to_found;
-          to_node = to_node;
-          from_leaf = from_leaf;
-          from_leaf_found = from_found;
-          from_node = from_node;
-        }))),
+        copied_one t (Flows (family_of sets)) c.third x y to from (f s r.0 x r.1 q.0 y q.1) m),
+    (λ all. g (λ i x s j y q. copied_all t (Flows (family_of sets)) c.third x y (λ to from m.
+        all x y to from (place_has (slice_index_or sets c.target []) i x s) (place_has (slice_index_or sets c.source []) j y q) m))),
   )
 
   pub argument_meets : IsTrue b ↔ Each (slice_index_or sets c.target []) (λ x. GivesEntry t (Flows (family_of sets)) c.third c.source x)

@@ -13,7 +13,7 @@ use Rattle.points_to.specs.declared.progress.Progress.{Progress}
 use Rattle.points_to.specs.Sets.{has}
 use Rattle.points_to.specs.Families.{Family, Relation, Has, Flows, family_of}
 use Rattle.points_to.specs.Rules.{Demands, IsClosed, rule_of}
-use Rattle.points_to.specs.Tests.{Each}
+use Rattle.points_to.specs.RuleParts.{Each}
 use Rattle.points_to.specs.Fits.{Fits, IsConstraintWithin, has_source}
 use Rattle.points_to.specs.Progress.{Kept, Stands, IsMet, IsWithin, Flowed, IsTaken, IsIdle, IsNext, IsStart, IsOnce, done_of, todo_of, known_of, edges_of, room}
 use Rattle.points_to.specs.Readers.{constraint_lists, AreReaders, reads_target, reads_source, read_node}

@@ -2,7 +2,7 @@ pub mod Sets
 pub mod Blocks
 pub mod Families
 pub mod Rules
-pub mod Tests
+pub mod RuleParts
 pub mod Named
 pub mod Fits
 pub mod Progress

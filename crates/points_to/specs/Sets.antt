@@ -1,10 +1,6 @@
 -- Sets of numbers as ascending lists.
-use Rattle.std.specs.Prelude.{ℕ, ◌+◌, ◌^◌, ◌<◌, ◌≤◌, ◌==◌, Bool, List, [], ◌∷◌}
-use Rattle.std.specs.List.{list_any}
-
--- whether a number is among these
-abbrev pub has : List ℕ → ℕ → Bool
-has numbers n = list_any (λ x. x == n) numbers
+use Rattle.std.specs.Prelude.{ℕ, ◌+◌, ◌^◌, ◌<◌, ◌≤◌, List, [], ◌∷◌}
+pub use Rattle.core_ir.specs.Lists.{has}
 
 -- each number is at least `low`
 abbrev pub AllFrom : ℕ → List ℕ → Type 0

@@ -4,7 +4,7 @@ ghost use Rattle.core_ir.specs.Plain.{lists_of};
 ghost use Rattle.points_to.specs.Sets.{has};
 ghost use Rattle.points_to.specs.Families.{Family, Has, Flows, family_of};
 ghost use Rattle.points_to.specs.Rules.{Meets, IsClosed};
-ghost use Rattle.points_to.specs.Tests.{Each, TakesLeaves, GivesLeaves, TakesParts, TakesLeaf, TakesLike, TakesLayouts, TakesObject, TakesObjects, GivesEntry, TakesResult};
+ghost use Rattle.points_to.specs.RuleParts.{Each, TakesLeaves, GivesLeaves, TakesParts, TakesLeaf, TakesLike, TakesLayouts, TakesObject, TakesObjects, GivesEntry, TakesResult};
 
 use crate::rule::Rule;
 use crate::{rule, table};
@@ -64,7 +64,7 @@ fn flows(sets: &[Vec<u32>], from: usize, to: usize) -> bool
     is_within(set_of(sets, from), set_of(sets, to))
 }
 
-#[tactic(auto, unfolding(crate::specs::Tests::TakesLeaves))]
+#[tactic(auto, unfolding(crate::specs::RuleParts::TakesLeaves))]
 fn takes_leaves(classes: &ClassTable, sets: &[Vec<u32>], member: u32, to: usize) -> bool
     ensures { IsTrue result ↔ TakesLeaves classes.now (Flows (family_of (lists_of sets.now))) member to }
 {
@@ -78,7 +78,7 @@ fn takes_leaves(classes: &ClassTable, sets: &[Vec<u32>], member: u32, to: usize)
     true
 }
 
-#[tactic(auto, unfolding(crate::specs::Tests::GivesLeaves))]
+#[tactic(auto, unfolding(crate::specs::RuleParts::GivesLeaves))]
 fn gives_leaves(classes: &ClassTable, sets: &[Vec<u32>], from: usize, member: u32) -> bool
     ensures { IsTrue result ↔ GivesLeaves classes.now (Flows (family_of (lists_of sets.now))) from member }
 {
@@ -92,7 +92,7 @@ fn gives_leaves(classes: &ClassTable, sets: &[Vec<u32>], from: usize, member: u3
     true
 }
 
-#[tactic(auto, unfolding(crate::specs::Tests::TakesParts))]
+#[tactic(auto, unfolding(crate::specs::RuleParts::TakesParts))]
 fn takes_parts(classes: &ClassTable, sets: &[Vec<u32>], number: u32, member: u32, to: usize) -> bool
     ensures { IsTrue result ↔ TakesParts classes.now (Has (family_of (lists_of sets.now))) number member to }
 {
@@ -104,7 +104,7 @@ fn takes_parts(classes: &ClassTable, sets: &[Vec<u32>], number: u32, member: u32
     true
 }
 
-#[tactic(auto, unfolding(crate::specs::Tests::TakesLeaf))]
+#[tactic(auto, unfolding(crate::specs::RuleParts::TakesLeaf))]
 fn takes_leaf(classes: &ClassTable, sets: &[Vec<u32>], target: u32, source: u32) -> bool
     ensures { IsTrue result ↔ TakesLeaf classes.now (Flows (family_of (lists_of sets.now))) target source }
 {
@@ -117,7 +117,7 @@ fn takes_leaf(classes: &ClassTable, sets: &[Vec<u32>], target: u32, source: u32)
     }
 }
 
-#[tactic(auto, unfolding(crate::specs::Tests::TakesLike))]
+#[tactic(auto, unfolding(crate::specs::RuleParts::TakesLike))]
 fn takes_like(classes: &ClassTable, sets: &[Vec<u32>], targets: &[u32], sources: &[u32]) -> bool
     ensures { IsTrue result ↔ TakesLike classes.now (Flows (family_of (lists_of sets.now))) targets.now sources.now }
 {
@@ -211,7 +211,7 @@ fn takes_objects(
     true
 }
 
-#[tactic(auto, unfolding(crate::specs::Tests::GivesEntry))]
+#[tactic(auto, unfolding(crate::specs::RuleParts::GivesEntry))]
 fn gives_entry(
     classes: &ClassTable,
     sets: &[Vec<u32>],
@@ -227,7 +227,7 @@ fn gives_entry(
     }
 }
 
-#[tactic(auto, unfolding(crate::specs::Tests::TakesResult))]
+#[tactic(auto, unfolding(crate::specs::RuleParts::TakesResult))]
 fn takes_result(classes: &ClassTable, sets: &[Vec<u32>], member: u32, to: usize) -> bool
     ensures { IsTrue result ↔ TakesResult classes.now (Flows (family_of (lists_of sets.now))) member to }
 {

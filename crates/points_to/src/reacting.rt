@@ -3,7 +3,7 @@ ghost use Rattle.std.specs.Prelude.{◌≡◌, ◌<◌, true, length, OnOk, ℕ}
 ghost use Rattle.points_to.specs.Sets.{has};
 ghost use Rattle.points_to.specs.Families.{Has};
 ghost use Rattle.points_to.specs.Rules.{Demands, rule_of};
-ghost use Rattle.points_to.specs.Tests.{Each, TakesObject, TakesObjects};
+ghost use Rattle.points_to.specs.RuleParts.{Each, TakesObject, TakesObjects};
 ghost use Rattle.points_to.specs.Fits.{IsTableWithin, IsConstraintWithin};
 ghost use Rattle.points_to.specs.Progress.{Stands, IsMet, done_of};
 ghost use Rattle.points_to.specs.Readers.{reads_target, reads_source};

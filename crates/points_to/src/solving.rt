@@ -6,7 +6,7 @@ ghost use Rattle.points_to.specs.Sets.{has, IsSet};
 ghost use Rattle.points_to.specs.Families.{Family, Has, family_of};
 ghost use Rattle.points_to.specs.Named.{NamesOnly};
 ghost use Rattle.points_to.specs.Rules.{IsClosed, rule_of};
-ghost use Rattle.points_to.specs.Tests.{Each};
+ghost use Rattle.points_to.specs.RuleParts.{Each};
 ghost use Rattle.points_to.specs.Fits.{Fits, IsConstraintWithin, has_source};
 ghost use Rattle.points_to.specs.Progress.{Stands, IsMet, Flowed, done_of};
 ghost use Rattle.points_to.specs.Readers.{AreReaders, constraint_lists, reads_target, reads_source};

@@ -1,5 +1,5 @@
 use Rattle.std.proofs.Common.{◌≡◌, ℕ, ◌<◌, Some, slice_get}
-use Rattle.points_to.specs.Tests.{TakesLeaf}
+use Rattle.points_to.specs.RuleParts.{TakesLeaf}
 use Rattle.points_to.specs.Progress.{IsMet}
 use Rattle.points_to.proofs.linking.take_like.Given as goal
 

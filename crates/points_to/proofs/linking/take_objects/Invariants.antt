@@ -1,4 +1,4 @@
-use Rattle.points_to.specs.Tests.{TakesObject}
+use Rattle.points_to.specs.RuleParts.{TakesObject}
 use Rattle.points_to.specs.Progress.{IsMet}
 use Rattle.points_to.proofs.Steps.{Front}
 use Rattle.points_to.proofs.linking.take_objects.Given as goal
