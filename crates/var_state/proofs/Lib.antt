@@ -1,0 +1,5 @@
+pub mod Places
+pub mod Written
+pub mod Copying
+pub mod Closed
+pub mod Standing

@@ -1,0 +1,179 @@
+use crate::grid::Grid;
+use crate::open::Open;
+use crate::range::Range;
+use std::alloc::Global;
+use sv_base::NoMemory;
+
+/// What is known of the registers of one cluster, which have the positions from 1; position 0 is the constant zero. Of a
+/// single register two bounds are kept.
+#[derive(Drop)]
+pub(crate) enum Cluster {
+    One(Range),
+    Many(Grid),
+}
+
+/// A cluster as widened.
+#[derive(Drop)]
+pub(crate) enum Kept {
+    One(Range),
+    Many(Open),
+}
+
+impl Cluster {
+    /// Registers in their ranges.
+    pub(crate) fn from_ranges(alloc: Global, ranges: &[Range]) -> Result<Cluster, NoMemory> {
+        match ranges {
+            [] => return Ok(Cluster::One(Range::zero())),
+            [range] => return Ok(Cluster::One(*range)),
+            _ => return Ok(Cluster::Many(Grid::from_ranges(alloc, ranges)?)),
+        }
+    }
+
+    pub(crate) fn copy_of(&self, alloc: Global) -> Result<Cluster, NoMemory> {
+        match self {
+            Cluster::One(range) => return Ok(Cluster::One(*range)),
+            Cluster::Many(grid) => return Ok(Cluster::Many(grid.copy_of(alloc)?)),
+        }
+    }
+
+    pub(crate) fn bounds(&self, position: usize) -> Range {
+        match self {
+            Cluster::One(range) => return *range,
+            Cluster::Many(grid) => return grid.bounds(position),
+        }
+    }
+
+    /// The bound of the register at the second position less that at the first.
+    pub(crate) fn difference(&self, from: usize, to: usize) -> i128 {
+        match self {
+            Cluster::One(_) => return 0,
+            Cluster::Many(grid) => return grid.bound(from, to),
+        }
+    }
+
+    /// Bounds the register at the second position less that at the first by c. False where no numbers are left.
+    pub(crate) fn tighten(&mut self, from: usize, to: usize, c: i128) -> bool {
+        match self {
+            Cluster::One(range) => return tighten_one(range, from, to, c),
+            Cluster::Many(grid) => return grid.tighten(from, to, c),
+        }
+    }
+
+    /// Forgets a register, and bounds it by the range.
+    pub(crate) fn place(&mut self, position: usize, range: Range) {
+        match self {
+            Cluster::One(old) => *old = range,
+            Cluster::Many(grid) => grid.place(position, range),
+        }
+    }
+
+    /// The register `to` becomes `from + c`, cut to the range. False where no numbers are left.
+    pub(crate) fn set_sum(&mut self, to: usize, from: usize, c: i128, range: Range) -> bool {
+        match self {
+            Cluster::One(old) => return set_range(old, old.moved(c, range)),
+            Cluster::Many(grid) => return grid.set_sum(to, from, c, range),
+        }
+    }
+
+    pub(crate) fn join(&mut self, other: &Cluster) {
+        match (self, other) {
+            (Cluster::One(range), Cluster::One(more)) => *range = range.hull(*more),
+            (Cluster::Many(grid), Cluster::Many(more)) => grid.join(more),
+            _ => {}
+        }
+    }
+
+    pub(crate) fn copy_from(&mut self, other: &Cluster) {
+        match (self, other) {
+            (Cluster::One(range), Cluster::One(more)) => *range = *more,
+            (Cluster::Many(grid), Cluster::Many(more)) => grid.copy_from(more),
+            _ => {}
+        }
+    }
+
+    pub(crate) fn is_within(&self, other: &Cluster) -> bool {
+        match (self, other) {
+            (Cluster::One(range), Cluster::One(more)) => return range.lies_in(*more),
+            (Cluster::Many(grid), Cluster::Many(more)) => return grid.is_within(more),
+            _ => return false,
+        }
+    }
+
+    pub(crate) fn is_same(&self, other: &Cluster) -> bool {
+        match (self, other) {
+            (Cluster::One(range), Cluster::One(more)) => return range.is_same(*more),
+            (Cluster::Many(grid), Cluster::Many(more)) => return grid.is_same(more),
+            _ => return false,
+        }
+    }
+
+    /// The closed form of a cluster as widened.
+    pub(crate) fn close(&mut self, kept: &Kept) {
+        match (self, kept) {
+            (Cluster::One(range), Kept::One(more)) => *range = *more,
+            (Cluster::Many(grid), Kept::Many(open)) => grid.close(open),
+            _ => {}
+        }
+    }
+}
+
+// False where there is no range; the old one then stays.
+fn set_range(old: &mut Range, range: Option<Range>) -> bool {
+    match range {
+        Some(range) => {
+            *old = range;
+            return true;
+        }
+        None => return false,
+    }
+}
+
+fn tighten_one(range: &mut Range, from: usize, to: usize, c: i128) -> bool {
+    if from == to {
+        return 0 <= c;
+    }
+    if from == 0 {
+        return set_range(range, range.part(range.low, c));
+    }
+    if to == 0 {
+        return set_range(range, range.part(0i128.saturating_sub(c), range.high));
+    }
+    0 <= c
+}
+
+impl Kept {
+    /// The cluster as it is.
+    pub(crate) fn from_cluster(alloc: Global, cluster: &Cluster) -> Result<Kept, NoMemory> {
+        match cluster {
+            Cluster::One(range) => return Ok(Kept::One(*range)),
+            Cluster::Many(grid) => return Ok(Kept::Many(Open::from_grid(alloc, grid)?)),
+        }
+    }
+
+    pub(crate) fn copy_of(&self, alloc: Global) -> Result<Kept, NoMemory> {
+        match self {
+            Kept::One(range) => return Ok(Kept::One(*range)),
+            Kept::Many(open) => return Ok(Kept::Many(open.copy_of(alloc)?)),
+        }
+    }
+
+    /// The bounds of a cluster.
+    pub(crate) fn set(&mut self, cluster: &Cluster) {
+        match (self, cluster) {
+            (Kept::One(range), Cluster::One(more)) => *range = *more,
+            (Kept::Many(open), Cluster::Many(grid)) => open.set(grid),
+            _ => {}
+        }
+    }
+
+    /// Keeps each bound where that of `next` is not greater, and takes that of `top` otherwise.
+    pub(crate) fn widen(&mut self, next: &Cluster, top: &Cluster) {
+        match (self, next, top) {
+            (Kept::One(range), Cluster::One(next), Cluster::One(top)) => {
+                *range = range.widened(*next, *top)
+            }
+            (Kept::Many(open), Cluster::Many(next), Cluster::Many(top)) => open.widen(next, top),
+            _ => {}
+        }
+    }
+}
