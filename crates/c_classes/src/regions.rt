@@ -1,7 +1,7 @@
 use crate::nodes::{Node, Objects};
-use crate::numbers::{Marks, PartKey};
+use crate::numbers::Marks;
 use c_typed::TypeTable;
-use core_ir::{LayoutPart, PartClass, RegionClass};
+use core_ir::{LayoutPart, Part, PartClass, RegionClass};
 use std::alloc::Global;
 use sv_base::NoMemory;
 
@@ -145,7 +145,7 @@ pub fn region_classes(
     alloc: Global,
     types: &TypeTable,
     objects: &Objects,
-    parts: &[PartKey],
+    parts: &[Part],
     copied: &Marks,
 ) -> Result<Vec<RegionClass>, NoMemory> {
     let mut regions = bare_regions(alloc, types, objects)?;

@@ -150,6 +150,18 @@ impl StepList {
         })
     }
 
+    /// The steps of another list at the end.
+    pub fn append(&mut self, more: StepList) -> Result<(), NoMemory> {
+        let mut list = more.into_body();
+        match self.list.append(&mut list) {
+            Ok(()) => Ok(()),
+            Err(_) => {
+                let_go(list);
+                Err(NoMemory)
+            }
+        }
+    }
+
     /// The steps themselves, for the body of a function or a step.
     pub fn into_body(self) -> Vec<Step>
         ensures { result.items ≡ self.list.items }
