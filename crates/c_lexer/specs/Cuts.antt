@@ -5,6 +5,7 @@ use Rattle.sv_base.specs.declared.ids.FileId.{FileId}
 use Rattle.sv_base.specs.declared.fault.FaultKind.{FaultKind}
 use Rattle.sv_base.specs.declared.fault.FaultKind.TheVariants as faults
 use Rattle.sv_base.specs.declared.fault.SourceFault.{SourceFault}
+use Rattle.sv_base.specs.declared.limits.TheConstants as limits
 use Rattle.c_syntax.specs.declared.token.Token.{Token}
 use Rattle.c_syntax.specs.declared.token.TokenKind.{TokenKind}
 use Rattle.c_syntax.specs.declared.token.TokenKind.TheVariants as kinds
@@ -55,10 +56,10 @@ BeginsNoToken s (b ∷ c ∷ bs) = (((is_newline b ≡ true) ⊎ (is_blank b ≡
 
 -- how many names there can be, tokens of one file by the room that is left, and bytes of one token
 abbrev pub most_names : ℕ
-most_names = 65535
+most_names = limits.NAMES
 
 abbrev pub most_bytes : ℕ
-most_bytes = 65536
+most_bytes = limits.TOKEN_BYTES
 
 abbrev pub IsFull : Names → Text → Type 0
 IsFull names name = (has_name names name ≡ false) × (length names ≡ most_names)
@@ -113,7 +114,7 @@ pub data Cuts : Names → Spot → Text → Outcome → Type 0 where
 
 -- how many bytes a file can have
 abbrev pub most_file_bytes : ℕ
-most_file_bytes = 16777216
+most_file_bytes = limits.FILE_BYTES
 
 -- the tokens of a file, or its first fault, for the number of its own name, the room that is left and the names that stand
 pub data IsLexed (bytes : Text) (name : FileId) (room : ℕ) (names : Names) : Outcome → Type 0 where

@@ -9,10 +9,7 @@ use crate::step::turn;
 use c_syntax::{Token, TokenKind, Tokens};
 use sqlite_items::Items;
 use std::alloc::{AllocError, Global};
-use sv_base::{FaultKind, FileId, FrontFault, Names, Place, SourceFault};
-
-/// How many bytes a file can have.
-const MOST_FILE_BYTES: usize = 16_777_216;
+use sv_base::{FaultKind, FileId, FrontFault, Names, Place, SourceFault, limits};
 
 fn push_some(list: &mut Items<Token>, token: Option<Token>) -> Result<(), AllocError>
     ensures { OnOk result (list.new ≡ with_option list.old token) }
@@ -93,7 +90,7 @@ pub fn lex(
     // The names that stood before stand, with their numbers, also after a refusal.
     ensures kept { (k : ℕ) → k < length names.old → slice_get names.new k ≡ slice_get names.old k }
 {
-    if bytes.len() > MOST_FILE_BYTES {
+    if bytes.len() > limits::FILE_BYTES {
         return Err(FrontFault::Fault(SourceFault {
             kind: FaultKind::Limit(1),
             place: Place::of_file(name),

@@ -13,10 +13,7 @@ use crate::space::{close_len, opens_block, opens_line};
 use crate::spot::Spot;
 use c_syntax::{Token, TokenKind};
 use std::alloc::Global;
-use sv_base::{FaultKind, FileId, FrontFault, Names, NamesFull, SourceFault};
-
-/// How many bytes a token can have.
-const MOST_BYTES: usize = 65_536;
+use sv_base::{FaultKind, FileId, FrontFault, Names, NamesFull, SourceFault, limits};
 
 /// Behind a piece of the text: where it ends, the token that it is, and what is left.
 #[derive(Clone, Copy)]
@@ -162,7 +159,7 @@ fn counted<'a>(
     if spot.room == 0 {
         return Err(FaultKind::Limit(3));
     }
-    if len > MOST_BYTES {
+    if len > limits::TOKEN_BYTES {
         return Err(FaultKind::Limit(12));
     }
     let (word, rest) = text.split_at(len);
