@@ -3,11 +3,12 @@ use Rattle.std.proofs.Common.{◌≡◌, ℕ, ◌-◌, ◌+◌, ◌<◌, ◌^◌
 use Rattle.std.specs.Prelude.{is_some}
 use Rattle.std.specs.List.{concat}
 use Rattle.std.proofs.lemmas.Bool.{cases_lt}
+use Rattle.core_ir.specs.Lists.{has}
 use Rattle.artifact_codec.specs.declared.window.Window.{Window}
 use Rattle.artifact_codec.specs.Demands.{are_distinct}
 use Rattle.artifact_codec.specs.Reading.{◌>>=◌, counted_at, numbers_at}
 use Rattle.artifact_codec.specs.Checking.{registers_distinct}
-use Rattle.artifact_codec.specs.Windows.{mark_all, has, is_once, IsBlank, registers, IsBefore, IsAbove, Known, distinct_registers}
+use Rattle.artifact_codec.specs.Windows.{mark_all, is_once, IsBlank, registers, IsBefore, IsAbove, Known, distinct_registers}
 use Rattle.artifact_codec.proofs.Once.{all_once, distinct_once, absent_once, cases_bool, false_true, IsAtMost, IsFarBy, knows, stands_twice}
 
 pub err : (low : ℕ) (w : Window) (numbers : Option (List ℕ)) → IsBlank low w → (numbers >>= mark_all w) ≡ None → distinct_registers numbers ≡ false
@@ -42,7 +43,7 @@ ok low w v (Some ns) blank e =
         | inl lt ↦ known r lt
         | inr le ↦ elim (cases_lt r (w.low + length w.marks)) [
           | inl inside ↦ k.once r (omega (arith, blank.low_is, le), inside)
-          | inr far ↦ elim (cases_bool (has r ns)) [
+          | inr far ↦ elim (cases_bool (has ns r)) [
             | inl there ↦ absurd (not_both v.next r (k.noted r far there) before)
             | inr gone ↦ absent_once r ns gone
           ]

@@ -2,10 +2,11 @@
 use Rattle.std.proofs.Common.{◌≡◌, ℕ, ◌-◌, ◌+◌, ◌≤◌, ◌<◌, Bool, true, false, cond, ltb, ◌||◌, not, ◌==◌, ◌⊎◌, inl, inr, List, [], ◌∷◌, length, get_or, set, Option, Some, None, refl, sym, subst, ◌∙◌, arith}
 use Rattle.std.proofs.lemmas.Bool.{ltb-true, ltb-false, eqb-true, eqb-false, eq-eqb, ne_eqb, and_from, and_parts}
 use Rattle.std.proofs.lemmas.List.{get_or-set_same, get_or-set_other, length-set}
+use Rattle.core_ir.specs.Lists.{has}
 use Rattle.artifact_codec.specs.declared.window.Window.{Window}
 use Rattle.artifact_codec.specs.Demands.{are_distinct}
 use Rattle.artifact_codec.specs.Reading.{◌>>=◌}
-use Rattle.artifact_codec.specs.Windows.{lesser, mark, mark_all, has, is_once}
+use Rattle.artifact_codec.specs.Windows.{lesser, mark, mark_all, is_once}
 
 -- ---- a list in which each number stands once
 
@@ -17,10 +18,10 @@ or_parts : (a b : Bool) → (a || b) ≡ false → (a ≡ false) × (b ≡ false
 or_parts true b h = absurd cc
 or_parts false b h = (refl, h)
 
-pub absent_once : (r : ℕ) (ns : List ℕ) → has r ns ≡ false → is_once r ns ≡ true
+pub absent_once : (r : ℕ) (ns : List ℕ) → has ns r ≡ false → is_once r ns ≡ true
 absent_once r [] h = refl
 absent_once r (n ∷ ns) h =
-    let p = or_parts (n == r) (has r ns) h in
+    let p = or_parts (n == r) (has ns r) h in
     rw p.0 (absent_once r ns p.1)
 
 not_true : (b : Bool) → not b ≡ true → b ≡ false
@@ -34,25 +35,25 @@ not_false false h = refl
 once_tail : (r n : ℕ) (ns : List ℕ) → is_once r (n ∷ ns) ≡ true → is_once r ns ≡ true
 once_tail r n ns h = split (n == r) h
   where
-    split : (b : Bool) → cond b (not (has r ns)) (is_once r ns) ≡ true → is_once r ns ≡ true
-    split true h = absent_once r ns (not_true (has r ns) h)
+    split : (b : Bool) → cond b (not (has ns r)) (is_once r ns) ≡ true → is_once r ns ≡ true
+    split true h = absent_once r ns (not_true (has ns r) h)
     split false h = h
 
-once_head : (n : ℕ) (ns : List ℕ) → is_once n (n ∷ ns) ≡ true → not (has n ns) ≡ true
-once_head n ns h = subst (λ b. cond b (not (has n ns)) (is_once n ns) ≡ true) (eq-eqb n n refl) h
+once_head : (n : ℕ) (ns : List ℕ) → is_once n (n ∷ ns) ≡ true → not (has ns n) ≡ true
+once_head n ns h = subst (λ b. cond b (not (has ns n)) (is_once n ns) ≡ true) (eq-eqb n n refl) h
 
 pub all_once : (ns : List ℕ) → ((r : ℕ) → is_once r ns ≡ true) → are_distinct ns ≡ true
 all_once [] h = refl
-all_once (n ∷ ns) h = and_from (not (has n ns)) (are_distinct ns) (once_head n ns (h n)) (all_once ns (λ r. once_tail r n ns (h r)))
+all_once (n ∷ ns) h = and_from (not (has ns n)) (are_distinct ns) (once_head n ns (h n)) (all_once ns (λ r. once_tail r n ns (h r)))
 
-distinct_split : (r n : ℕ) (ns : List ℕ) → not (has n ns) ≡ true → is_once r ns ≡ true → (b : Bool) → (n == r) ≡ b → cond b (not (has r ns)) (is_once r ns) ≡ true
-distinct_split r n ns head tail true e = subst (λ m. not (has m ns) ≡ true) (eqb-true n r e) head
+distinct_split : (r n : ℕ) (ns : List ℕ) → not (has ns n) ≡ true → is_once r ns ≡ true → (b : Bool) → (n == r) ≡ b → cond b (not (has ns r)) (is_once r ns) ≡ true
+distinct_split r n ns head tail true e = subst (λ m. not (has ns m) ≡ true) (eqb-true n r e) head
 distinct_split r n ns head tail false e = tail
 
 pub distinct_once : (r : ℕ) (ns : List ℕ) → are_distinct ns ≡ true → is_once r ns ≡ true
 distinct_once r [] h = refl
 distinct_once r (n ∷ ns) h =
-    let p = and_parts (not (has n ns)) (are_distinct ns) h in
+    let p = and_parts (not (has ns n)) (are_distinct ns) h in
     distinct_split r n ns p.0 (distinct_once r ns p.1) (n == r) refl
 
 -- ---- what marking one number does
@@ -103,8 +104,8 @@ IsFar w next = IsFarBy (w.low + length w.marks) next
 
 pub record Knows (w : Window) (ns : List ℕ) (v : Window) : Type 0 where
   pub once : (r : ℕ) → IsIn w r → is_once r ns ≡ true
-  pub absent : (r : ℕ) → IsIn w r → marked_at w (r - w.low) ≡ true → has r ns ≡ false
-  pub noted : (r : ℕ) → w.low + length w.marks ≤ r → has r ns ≡ true → IsAtMost v.next r
+  pub absent : (r : ℕ) → IsIn w r → marked_at w (r - w.low) ≡ true → has ns r ≡ false
+  pub noted : (r : ℕ) → w.low + length w.marks ≤ r → has ns r ≡ true → IsAtMost v.next r
   pub kept : (r : ℕ) → IsAtMost w.next r → IsAtMost v.next r
   pub far : IsFar w w.next → IsFar w v.next
 
@@ -145,11 +146,11 @@ lesser_far w n le h = split w.next h
 other_once : (r n : ℕ) (ns : List ℕ) → (n ≡ r → ⊥) → is_once r ns ≡ true → is_once r (n ∷ ns) ≡ true
 other_once r n ns apart h = rw (ne_eqb n r apart) h
 
-other_absent : (r n : ℕ) (ns : List ℕ) → (n ≡ r → ⊥) → has r ns ≡ false → has r (n ∷ ns) ≡ false
+other_absent : (r n : ℕ) (ns : List ℕ) → (n ≡ r → ⊥) → has ns r ≡ false → has (n ∷ ns) r ≡ false
 other_absent r n ns apart h = rw (ne_eqb n r apart) h
 
-first_once : (n : ℕ) (ns : List ℕ) → has n ns ≡ false → is_once n (n ∷ ns) ≡ true
-first_once n ns h = rw (eq-eqb n n refl) (not_false (has n ns) h)
+first_once : (n : ℕ) (ns : List ℕ) → has ns n ≡ false → is_once n (n ∷ ns) ≡ true
+first_once n ns h = rw (eq-eqb n n refl) (not_false (has ns n) h)
 
 same_or_not : (n r : ℕ) → (n ≡ r) ⊎ (n ≡ r → ⊥)
 same_or_not n r = split (n == r) refl
@@ -158,10 +159,10 @@ same_or_not n r = split (n == r) refl
     split true e = inl (eqb-true n r e)
     split false e = inr (eqb-false n r e)
 
-has_first : (r n : ℕ) (ns : List ℕ) → has r (n ∷ ns) ≡ true → (n ≡ r) ⊎ (has r ns ≡ true)
+has_first : (r n : ℕ) (ns : List ℕ) → has (n ∷ ns) r ≡ true → (n ≡ r) ⊎ (has ns r ≡ true)
 has_first r n ns h = split (n == r) refl h
   where
-    split : (b : Bool) → (n == r) ≡ b → (b || has r ns) ≡ true → (n ≡ r) ⊎ (has r ns ≡ true)
+    split : (b : Bool) → (n == r) ≡ b → (b || has ns r) ≡ true → (n ≡ r) ⊎ (has ns r ≡ true)
     split true e h = inl (eqb-true n r e)
     split false e h = inr h
 
@@ -188,7 +189,7 @@ knows_new w v n ns le lt unmarked k =
     let i = n - w.low in
     let len : length (set w.marks i true) ≡ length w.marks = length-set w.marks i true in
     let inside : (r : ℕ) → IsIn w r → (w.low ≤ r) × (r < w.low + length (set w.marks i true)) = λ r p. (p.0, rw len p.1) in
-    let gone : has n ns ≡ false = k.absent n (le, rw len (omega (arith, le, lt))) (get_or-set_same w.marks i true false lt) in
+    let gone : has ns n ≡ false = k.absent n (le, rw len (omega (arith, le, lt))) (get_or-set_same w.marks i true false lt) in
     record {
       once = λ r p. elim (same_or_not n r) [
         | inl e ↦ subst (λ m. is_once m (n ∷ ns) ≡ true) e (first_once n ns gone)
@@ -238,15 +239,15 @@ knows (n ∷ ns) w v e = knows_first w v n ns (mark w n) (step w n) (λ u. knows
 pub record Twice (w : Window) (ns : List ℕ) : Type 0 where
   pub number : ℕ
   pub inside : IsIn w number
-  pub why : (is_once number ns ≡ false) ⊎ ((marked_at w (number - w.low) ≡ true) × (has number ns ≡ true))
+  pub why : (is_once number ns ≡ false) ⊎ ((marked_at w (number - w.low) ≡ true) × (has ns number ≡ true))
 
-true_has : (n : ℕ) (ns : List ℕ) → has n (n ∷ ns) ≡ true
+true_has : (n : ℕ) (ns : List ℕ) → has (n ∷ ns) n ≡ true
 true_has n ns = rw (eq-eqb n n refl) refl
 
-has_more : (r n : ℕ) (ns : List ℕ) → has r ns ≡ true → has r (n ∷ ns) ≡ true
+has_more : (r n : ℕ) (ns : List ℕ) → has ns r ≡ true → has (n ∷ ns) r ≡ true
 has_more r n ns h = split (n == r)
   where
-    split : (b : Bool) → (b || has r ns) ≡ true
+    split : (b : Bool) → (b || has ns r) ≡ true
     split true = refl
     split false = h
 
@@ -257,8 +258,8 @@ once_more r n ns h = split (cases_bool (is_once r (n ∷ ns)))
     split (inl t) = absurd (false_true (is_once r ns) h (once_tail r n ns t))
     split (inr f) = f
 
-here_twice : (n : ℕ) (ns : List ℕ) → has n ns ≡ true → is_once n (n ∷ ns) ≡ false
-here_twice n ns h = rw (eq-eqb n n refl) (not_of_true (has n ns) h)
+here_twice : (n : ℕ) (ns : List ℕ) → has ns n ≡ true → is_once n (n ∷ ns) ≡ false
+here_twice n ns h = rw (eq-eqb n n refl) (not_of_true (has ns n) h)
   where
     not_of_true : (b : Bool) → b ≡ true → not b ≡ false
     not_of_true true e = refl
@@ -268,7 +269,7 @@ twice_more : (w : Window) (n : ℕ) (ns : List ℕ) → Twice w ns → Twice w (
 twice_more w n ns t = record {
   number = t.number;
   inside = t.inside;
-  why = elim t.why as (λ _. (is_once t.number (n ∷ ns) ≡ false) ⊎ ((marked_at w (t.number - w.low) ≡ true) × (has t.number (n ∷ ns) ≡ true))) [ inl f ↦ inl (once_more t.number n ns f) | inr p ↦ inr (p.0, has_more t.number n ns p.1) ];
+  why = elim t.why as (λ _. (is_once t.number (n ∷ ns) ≡ false) ⊎ ((marked_at w (t.number - w.low) ≡ true) × (has (n ∷ ns) t.number ≡ true))) [ inl f ↦ inl (once_more t.number n ns f) | inr p ↦ inr (p.0, has_more t.number n ns p.1) ];
 }
 
 twice_new : (w : Window) (n : ℕ) (ns : List ℕ) → w.low ≤ n → n - w.low < length w.marks → Twice (record w { marks = set w.marks (n - w.low) true }) ns → Twice w (n ∷ ns)
@@ -281,7 +282,7 @@ twice_new w n ns le lt t =
     elim t.why as (λ _. Twice w (n ∷ ns)) [
       | inl f ↦ record { number = r; inside = inside; why = inl (once_more r n ns f) }
       | inr p ↦ elim (same_or_not n r) as (λ _. Twice w (n ∷ ns)) [
-        | inl e ↦ record { number = n; inside = (le, omega (arith, le, lt)); why = inl (here_twice n ns (subst (λ m. has m ns ≡ true) (sym e) p.1)) }
+        | inl e ↦ record { number = n; inside = (le, omega (arith, le, lt)); why = inl (here_twice n ns (subst (λ m. has ns m ≡ true) (sym e) p.1)) }
         | inr apart ↦ record { number = r; inside = inside; why = inr (sym (get_or-set_other w.marks i (r - w.low) true false (λ e. apart (omega (arith, le, t.inside.0, e)))) ∙ p.0, has_more r n ns p.1) }
       ]
     ]

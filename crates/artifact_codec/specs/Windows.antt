@@ -1,6 +1,7 @@
 -- Looking for numbers that stand twice, one window of numbers at a time.
 use Rattle.std.specs.Prelude.{◌≡◌, ◌≢◌, ℕ, zero, suc, ◌-◌, ◌<◌, Result, Ok, Err, ◌==◌, not, Bool, true, false, nat_lt, if◌then◌else◌, List, [], ◌∷◌, length, Option, Some, None}
-use Rattle.std.specs.List.{slice_index_or, slice_set, list_any, concat}
+use Rattle.std.specs.List.{slice_index_or, slice_set, concat}
+use Rattle.core_ir.specs.Lists.{has}
 use Rattle.artifact_codec.specs.declared.window.Window.{Window}
 use Rattle.artifact_codec.specs.Demands.{are_distinct}
 use Rattle.artifact_codec.specs.declared.refusal.Malformed.{Malformed}
@@ -61,13 +62,10 @@ pub record IsBlank (low : ℕ) (w : Window) : Type 0 where
 unfoldable pub registers : List ℕ → Option (List ℕ)
 registers bytes = counted_at numbers_at bytes >>= λ x. Some (concat x.0)
 
-abbrev pub has : ℕ → List ℕ → Bool
-has r ns = list_any (λ m. m == r) ns
-
 -- a number does not stand twice
 abbrev pub is_once : ℕ → List ℕ → Bool
 is_once r [] = true
-is_once r (n ∷ ns) = if n == r then not (has r ns) else is_once r ns
+is_once r (n ∷ ns) = if n == r then not (has ns r) else is_once r ns
 
 -- a number is below a limit, where there is one
 abbrev pub IsBefore : ℕ → Option ℕ → Type 0
