@@ -1,3 +1,4 @@
+pub mod Rounds
 pub mod Shelves
 pub mod Turns
 pub mod Works

@@ -1,6 +1,7 @@
 //! Work in rounds of tasks: what a round needs of those before it, who may compute a task, and the shelf of artifacts.
 #![tactic(auto)]
 
+mod rounds;
 mod shelf;
 mod stop;
 mod turn;
