@@ -59,7 +59,8 @@ abbrev pub IfEnded : Result (Option Kept) OpenFault → Type 0 → Type 0
 IfEnded (Ok None) P = P
 IfEnded other P = Unit {0}
 
--- a record that was read lies behind, and at least its 13 bytes and its body were passed
+-- a record that was read lies behind, and at least its 13 bytes and its body were passed; nothing goes back
 abbrev pub PassesOn : Scan → Scan → Result (Option Kept) OpenFault → Type 0
 PassesOn old new (Ok (Some kept)) = (old.at ≤ kept.at) × (new.at ≡ kept.at + 13 + length kept.body.items)
-PassesOn old new other = Unit {0}
+PassesOn old new (Ok None) = old.at ≤ new.at
+PassesOn old new (Err fault) = Unit {0}

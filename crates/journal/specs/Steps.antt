@@ -1,5 +1,5 @@
 -- What the reading of one record answers.
-use Rattle.std.specs.Prelude.{◌≡◌, ℕ, ◌+◌, ◌<◌, Bool, true, false, List, [], ◌∷◌, ◌++◌, length, drop, Result, Ok, Err}
+use Rattle.std.specs.Prelude.{◌≡◌, ℕ, ◌+◌, ◌<◌, ◌≤◌, Bool, true, false, List, [], ◌∷◌, ◌++◌, length, drop, Result, Ok, Err}
 use Rattle.journal.specs.declared.digests.Digests.{Digests}
 use Rattle.journal.specs.declared.fault.OpenFault.{OpenFault}
 use Rattle.journal.specs.declared.fault.OpenFault.TheVariants.{Disk, Damaged, NoMemory}
@@ -80,9 +80,9 @@ abbrev pub StopsAtClosed : Scan → List ℕ → Scan → Result Step OpenFault 
 StopsAtClosed old image new (Ok Closed) = IsClosed (drop old.at image) × (new ≡ old)
 StopsAtClosed old image new other = Unit {0}
 
--- a record that was read stands at the gate, and lies behind
+-- a record that was read stands at the gate, and lies behind; nothing goes back
 abbrev pub GoesFurther : Scan → Scan → Result Step OpenFault → Type 0
-GoesFurther old new (Ok Closed) = Unit {0}
+GoesFurther old new (Ok Closed) = old.at ≤ new.at
 GoesFurther old new (Ok (Record kept)) = (kept.at ≡ old.at) × (new.at ≡ kept.at + 13 + length kept.body.items)
 GoesFurther old new (Ok Version) = old.at < new.at
 GoesFurther old new (Err fault) = Unit {0}

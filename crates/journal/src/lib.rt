@@ -31,3 +31,4 @@ pub use laws::{one_beginning, one_list};
 pub use looking::look;
 pub use piece::Piece;
 pub use reader::Reading;
+pub use record::LIMIT;

@@ -41,7 +41,7 @@ impl<D: Disk> Reading<D> {
     ghost use Rattle.journal.specs.declared.fault.OpenFault.TheVariants.{Disk as disk_fault, NoMemory as no_memory};
     ghost use Rattle.journal.specs.Endings.{LeftByReading};
     ghost use Rattle.journal.specs.Format.{Entry};
-    ghost use Rattle.journal.specs.Journals.{journal_disk, has_failed, IsJournal, IsSettled};
+    ghost use Rattle.journal.specs.Journals.{journal_disk, journal_gate, has_failed, IsJournal, IsSettled};
     ghost use Rattle.journal.specs.Lists.{versions, version_entry, with_version, wants_version as wants_it};
     ghost use Rattle.journal.specs.Nexts.{UnlessDone, PassesOn};
     ghost use Rattle.journal.specs.Openings.{handed_back, answer_of};
@@ -134,6 +134,7 @@ impl<D: Disk> Reading<D> {
         ensures any_moment { D.told ≡ true → (digests : Digested) (entries : List Entry) → EndsWith D.told D.may_leave digests entries self →
             LeavesOnly D.moment D.left_since (reading_disk self) (handed_back journal_disk result) (HoldsEither digests entries (version_entry digests.current ∷ [])) }
         ensures not_failed { IfOk result (λ j. has_failed j ≡ false) }
+        ensures gate { IfOk result (λ j. (reading_scan self).at ≤ journal_gate j) }
         ensures failed { IsErrOf (answer_of result) disk_fault → Rose (D.faults (reading_disk self)) (D.faults (handed_back journal_disk result)) }
         ensures refused { OnErr result (IsErrOf (answer_of result) disk_fault ⊎ IsErrOf (answer_of result) no_memory) }
         ensures later { D.faults (reading_disk self) ≤ D.faults (handed_back journal_disk result) }

@@ -15,7 +15,7 @@ use sv_base::DiskFailed;
 use sv_outside::Disk;
 
 /// The greatest length of an image in bytes.
-pub(crate) const LIMIT: u64 = 2147483648;
+pub const LIMIT: u64 = 2147483648;
 
 // Whether the gate is open, and not the last byte.
 fn is_open<D: Disk>(disk: &mut D, scan: &Scan) -> Result<bool, DiskFailed>

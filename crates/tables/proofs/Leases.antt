@@ -1,11 +1,11 @@
 -- How many tasks are leased.
-use Rattle.std.proofs.Common.{◌≡◌, ℕ, zero, suc, ◌+◌, ◌<◌, ◌≤◌, Bool, true, false, cond, List, [], ◌∷◌, map, length, replicate, set, get_or, Option, Some, None, slice_get, refl, sym, ◌∙◌, ap, subst, arith}
+use Rattle.std.proofs.Common.{◌≡◌, ℕ, zero, suc, ◌+◌, ◌<◌, ◌≤◌, Bool, true, false, cond, List, [], ◌∷◌, map, length, replicate, set, Option, Some, None, slice_get, refl, ◌∙◌, ap, arith}
 use Rattle.std.proofs.lemmas.List.Sums.{sum_by-cons}
 use Rattle.std.specs.Prelude.{count_by, nat_le}
 use Rattle.lease_table.specs.declared.standing.Standing.{Standing}
 use Rattle.lease_table.specs.declared.standing.Standing.TheVariants.{Free, Leased, Done}
 use Rattle.lease_table.specs.Machine.{IsLeasedBy}
-use Rattle.lease_table.specs.Standings.{AllDone, IsDone, standing_at, has_run_out, expired}
+use Rattle.lease_table.specs.Standings.{AllDone, has_run_out, expired}
 use Rattle.tables.specs.Rounds.{leased_count}
 
 -- at most each task is leased

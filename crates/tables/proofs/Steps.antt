@@ -2,15 +2,14 @@
 use Rattle.std.proofs.Common.{◌≡◌, ℕ, zero, suc, ◌+◌, ◌-◌, ◌<◌, ◌≤◌, Bool, true, false, cond, inl, inr, List, [], ◌∷◌, ◌++◌, map, length, replicate, set, get_or, Option, Some, None, IsSome, Vec, vec_capacity, slice_get, refl, sym, ◌∙◌, ap, subst, arith}
 use Rattle.std.proofs.lemmas.List.{length-set, length-map, length-append, length-replicate}
 use Rattle.std.proofs.lemmas.Bool.Decides.{leb_tells}
-use Rattle.std.specs.Prelude.{count_by}
 use Rattle.std.specs.declared.alloc.Global.{Global}
 use Rattle.lease_table.specs.declared.event.Event.{Event}
 use Rattle.lease_table.specs.Events.{after, replay}
 use Rattle.lease_table.specs.Machine.{Machine, Reserved, started}
 use Rattle.lease_table.specs.Machine.{IsLeasedBy, Expires, Advances, Ends}
-use Rattle.lease_table.specs.Standings.{AllDone, expired, has_run_out}
+use Rattle.lease_table.specs.Standings.{expired}
 use Rattle.lease_table.specs.declared.standing.Standing.{Standing}
-use Rattle.lease_table.specs.declared.standing.Standing.TheVariants.{Free, Leased, Done}
+use Rattle.lease_table.specs.declared.standing.Standing.TheVariants.{Free}
 use Rattle.lease_table.specs.declared.event.Event.TheVariants.{Expired, Advanced, Ended}
 use Rattle.tables.proofs.Leases.{leased_few, ends_one, expires_count, none_expired, none_done, none_free, held}
 use Rattle.tables.specs.Rounds.{leased_count, IsKept}
@@ -73,8 +72,8 @@ begun_row shelf tasks =
     let size : length row ≡ tasks = length-replicate tasks None in
     elim (leb_tells 6 n) [
       | inl many ↦
-        ap (λ (b : Bool). length (get_or (cond b (set rows (n - 3) []) rows) (length shelf.rows) [])) many.0
-        ∙ (ap length (set_before rows (n - 3) (length shelf.rows) [] (omega (arith, many.1, long)) ∙ last) ∙ size)
+          ap (λ (b : Bool). length (get_or (cond b (set rows (n - 3) []) rows) (length shelf.rows) [])) many.0
+          ∙ (ap length (set_before rows (n - 3) (length shelf.rows) [] (omega (arith, many.1, long)) ∙ last) ∙ size)
       | inr few ↦ ap (λ (b : Bool). length (get_or (cond b (set rows (n - 3) []) rows) (length shelf.rows) [])) few.0 ∙ (ap length last ∙ size)
     ]
 

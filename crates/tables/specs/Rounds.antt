@@ -1,5 +1,5 @@
 -- Rounds of tasks, as far as they have come.
-use Rattle.std.specs.Prelude.{◌≡◌, ℕ, zero, suc, ◌+◌, ◌<◌, ◌≤◌, Bool, true, false, List, [], ◌∷◌, ◌++◌, length, Option, Some, None, IsSome, Vec, vec_capacity}
+use Rattle.std.specs.Prelude.{◌≡◌, ℕ, zero, suc, ◌+◌, ◌<◌, ◌≤◌, false, List, [], ◌∷◌, length, Option, Some, None, IsSome, Vec, vec_capacity}
 use Rattle.std.specs.declared.alloc.Global.{Global}
 use Rattle.lease_table.specs.declared.event.Event.{Event}
 use Rattle.lease_table.specs.declared.event.Event.TheVariants.{Claimed as ClaimedOne, Abandoned as AbandonedOne, Expired as ExpiredAt, Ended}

@@ -84,8 +84,10 @@ impl<B: Drop> Rounds<B> {
         self.lease.round()
     }
 
+    /// Whether the last round was ended. A round that goes on has a task.
     pub(crate) fn is_ended(&self) -> bool
-        ensures { result ≡ self.now.machine.ended }
+        ensures ended { result ≡ self.now.machine.ended }
+        ensures task { result ≡ false → 0 < length self.now.machine.tasks }
     {
         self.lease.is_ended()
     }
@@ -209,6 +211,7 @@ impl<B: Drop> Rounds<B> {
         requires going { self.old.machine.ended ≡ false }
         requires round { self.old.machine.round < 2 ^ 32 - 2 }
         ensures follows { OnOk result (Follows next self.old self.new) }
+        ensures task { 0 < length self.old.machine.tasks }
         ensures err { OnErr result (self.new ≡ self.old) }
     {
         self.events.reserve(1)?;

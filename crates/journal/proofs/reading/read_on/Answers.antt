@@ -1,4 +1,4 @@
-use Rattle.std.proofs.Common.{◌≡◌, true, ◌++◌, ◌∷◌, [], List, ℕ, ◌<◌, length, drop, refl, sym, subst, arith, Ok, Err}
+use Rattle.std.proofs.Common.{◌≡◌, true, ◌++◌, ◌∷◌, [], List, ℕ, ◌<◌, length, drop, refl, sym, subst, arith, Ok, Err, ◌≤◌}
 use Rattle.journal.specs.declared.digests.Digests.{Digests}
 use Rattle.journal.specs.declared.scan.Step.{Step}
 use Rattle.journal.specs.declared.scan.Step.TheVariants.{Closed, Record}
@@ -99,3 +99,12 @@ returns-in-Ok-Record-step-clause-further g c =
     let one : c.args.scan.now.at < c.step.new.scan.at = subst (λ (s : Step). GoesFurther c.args.scan.now c.step.new.scan (Ok s)) c.in-Ok-Version.field-0-is c.in-Ok-Version.ensures.further in
     let two = subst (λ (s : Step). GoesFurther c.step.new.scan c.step-2.new.scan (Ok s)) c.in-Ok-Record-step.field-0-is c.in-Ok-Record-step.ensures.further in
     (omega (arith, one, two.0), two.1)
+
+pub returns-in-Ok-Closed-clause-further : goal.returns-in-Ok-Closed-clause-further
+returns-in-Ok-Closed-clause-further g c = subst (λ (s : Step). GoesFurther c.args.scan.now c.step.new.scan (Ok s)) c.in-Ok-Closed.field-0-is c.in-Ok-Closed.ensures.further
+
+pub returns-in-Ok-Closed-step-clause-further : goal.returns-in-Ok-Closed-step-clause-further
+returns-in-Ok-Closed-step-clause-further g c =
+    let one : c.args.scan.now.at < c.step.new.scan.at = subst (λ (s : Step). GoesFurther c.args.scan.now c.step.new.scan (Ok s)) c.in-Ok-Version.field-0-is c.in-Ok-Version.ensures.further in
+    let two : c.step.new.scan.at ≤ c.step-2.new.scan.at = subst (λ (s : Step). GoesFurther c.step.new.scan c.step-2.new.scan (Ok s)) c.in-Ok-Closed-step.field-0-is c.in-Ok-Closed-step.ensures.further in
+    omega (arith, one, two)

@@ -1,4 +1,4 @@
-use Rattle.std.proofs.Common.{◌≡◌, ◌<◌, ◌++◌, ◌∷◌, [], List, ◌∙◌, ap, subst, arith}
+use Rattle.std.proofs.Common.{◌<◌, ◌++◌, ◌∷◌, [], List, ◌∙◌, ap, subst, arith}
 use Rattle.lease_table.specs.Machine.{Machine, Advances}
 use Rattle.lease_table.specs.declared.event.Event.{Event}
 use Rattle.lease_table.specs.declared.event.Event.TheVariants.{Advanced, Ended}

@@ -1,4 +1,4 @@
-use Rattle.std.proofs.Common.{◌≡◌, sym, ◌∙◌, ap, arith, List, ◌++◌, ◌∷◌, []}
+use Rattle.std.proofs.Common.{◌≡◌, ◌∙◌, ap, arith, List, ◌++◌, ◌∷◌, []}
 use Rattle.lease_table.specs.Events.{after}
 use Rattle.lease_table.specs.Machine.{lease_end}
 use Rattle.lease_table.specs.declared.event.Event.{Event}

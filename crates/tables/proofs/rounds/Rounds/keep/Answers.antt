@@ -1,8 +1,7 @@
-use Rattle.std.proofs.Common.{◌≡◌, sym, ◌∙◌, ap, subst, arith, List, ◌++◌, ◌∷◌, []}
+use Rattle.std.proofs.Common.{sym, ◌∙◌, ap, subst, arith, List, ◌++◌, ◌∷◌, []}
 use Rattle.lease_table.specs.declared.event.Event.{Event}
 use Rattle.lease_table.specs.declared.event.Event.TheVariants.{Kept}
 use Rattle.lease_table.specs.declared.standing.Standing.TheVariants.{Done}
-use Rattle.tables.specs.Shelves.{Shelved}
 use Rattle.tables.proofs.Steps.{SameRows, one_shelved, kept_takes}
 use Rattle.tables.proofs.rounds.Rounds.keep.Goals as goal
 

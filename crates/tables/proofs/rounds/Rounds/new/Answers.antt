@@ -1,4 +1,4 @@
-use Rattle.std.proofs.Common.{◌<◌, arith, subst}
+use Rattle.std.proofs.Common.{◌<◌, subst}
 use Rattle.tables.specs.Works.{HasTask}
 use Rattle.tables.proofs.Steps.{kept_first}
 use Rattle.tables.proofs.rounds.Rounds.new.Goals as goal

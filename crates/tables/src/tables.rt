@@ -1,0 +1,288 @@
+use crate::mark::{MARK, is_mark};
+use crate::reopening::read_back;
+use crate::rounds::Rounds;
+use crate::{Opening, Publish, Stop, Turn, Work};
+use journal::{Digests, Journal, LIMIT, NoRoom, OpenFault, Piece};
+use lease_table::{Abandoned, Claimed, Standing};
+use std::alloc::Global;
+use std::snapshot::Snapshot;
+use sv_base::NoMemory;
+use sv_outside::Disk;
+
+/// A work as far as it was done: its rounds, and the journal that outlives a crash.
+pub struct Tables<D: Disk, W: Work> {
+    opening: Opening<D, W>,
+    rounds: Rounds<W::Basis>,
+    journal: Journal<D>,
+}
+
+impl<D: Disk, W: Work> Drop for Tables<D, W> {
+    fn drop(self) {
+        let Tables {
+            opening: _,
+            rounds: _,
+            journal: _,
+        } = self;
+    }
+}
+
+impl<D: Disk, W: Work> Tables<D, W> {
+    ghost use Rattle.std.specs.Prelude.{◌≡◌, ◌≢◌, ◌≤◌, ◌<◌, ◌^◌, ◌+◌, ◌++◌, ◌∷◌, [], ℕ, true, false, length, Some, IfOk, IfErr, OnOk, OnErr, slice_get};
+    ghost use Rattle.std.specs.Option.{option_copied};
+    ghost use Rattle.lease_table.specs.Machine.{IsLeasedBy, Claims, Abandons, Expires};
+    ghost use Rattle.lease_table.specs.Standings.{AllDone, SomeNotDone};
+    ghost use Rattle.journal.specs.Journals.{journal_disk, journal_gate};
+    ghost use Rattle.journal.specs.Openings.{handed_back};
+    ghost use Rattle.tables.specs.Rounds.{Follows, claims_of, abandons_of, expires_of};
+    ghost use Rattle.tables.specs.Shelves.{artifact_at};
+    ghost use Rattle.tables.specs.Sound.{IsSound, machine_of, shelf_of, events_of, journal_of, is_repeated, record_size, StopsAt, Publishes, FollowsRound};
+    ghost use Rattle.tables.specs.Works.{IsNoMark};
+
+    /// Opens a database, and takes what was published before. A refusal hands the disk back.
+    pub fn open(
+        alloc: Global,
+        disk: D,
+        work: &W,
+        digests: &Digests,
+        term: u64,
+    ) -> Result<Tables<D, W>, (D, OpenFault)>
+        ensures sound { IfOk result (λ t. IsSound D.told D.seen t) }
+        ensures work { IfOk result (λ t. t.opening.work.value ≡ work.now) }
+        ensures disk { IfOk result (λ t. t.opening.disk.value ≡ disk) }
+        ensures term { IfOk result (λ t. t.opening.term ≡ term) }
+        ensures digests { IfOk result (λ t. t.opening.digests ≡ digests.now) }
+    {
+        let opening = Opening {
+            digests: *digests,
+            term,
+            work: Snapshot::of(work),
+            disk: Snapshot::of(&disk),
+        };
+        let mut reading = match Journal::open(alloc, disk, digests) {
+            Ok(reading) => reading,
+            Err(refused) => return Err(refused),
+        };
+        let rounds = match read_back(alloc, &mut reading, work) {
+            Ok(rounds) => rounds,
+            Err(fault) => return Err((reading.into_disk(), fault)),
+        };
+        match reading.into_journal(alloc) {
+            Ok(journal) => Ok(Tables {
+                opening,
+                rounds,
+                journal,
+            }),
+            Err(refused) => Err(refused),
+        }
+    }
+
+    /// What the tables were opened with.
+    pub fn opening(&self) -> &Opening<D, W>
+        ensures { result.now ≡ self.now.opening }
+    {
+        &self.opening
+    }
+
+    /// The number of the current round, from 0.
+    pub fn round(&self) -> u32
+        ensures { result ≡ (machine_of self.now).round }
+    {
+        self.rounds.round()
+    }
+
+    /// Whether each task of the round is done.
+    pub fn round_done(&self) -> bool
+        ensures all { result ≡ true → AllDone (machine_of self.now).tasks }
+        ensures some { result ≡ false → SomeNotDone (machine_of self.now).tasks }
+    {
+        self.rounds.is_round_done()
+    }
+
+    /// Whether the last round was ended.
+    pub fn is_finished(&self) -> bool
+        ensures { result ≡ (machine_of self.now).ended }
+    {
+        self.rounds.is_ended()
+    }
+
+    /// The artifact of a task, none where the round is not kept or the task is not done.
+    pub fn artifact(&self, round: u32, task: u32) -> Option<&[u8]>
+        ensures { option_copied result ≡ artifact_at (shelf_of self.now) round task }
+    {
+        self.rounds.shelf().get(round, task)
+    }
+
+    /// Leases the least task that is free or whose lease has run out.
+    pub fn claim(&mut self, worker: u32, now: u64) -> Result<Claimed, NoMemory>
+        requires { IsSound D.told D.seen self.old }
+        ensures sound { IsSound D.told D.seen self.new }
+        ensures opening { self.new.opening ≡ self.old.opening }
+        ensures step { IfOk result (λ claimed. Claims now self.old.opening.term (machine_of self.old) claimed (machine_of self.new)) }
+        ensures events { IfOk result (λ claimed. events_of self.new ≡ events_of self.old ++ claims_of now self.old.opening.term claimed) }
+        ensures shelf { shelf_of self.new ≡ shelf_of self.old }
+        ensures journal { journal_of self.new ≡ journal_of self.old }
+        ensures err { OnErr result (self.new ≡ self.old) }
+    {
+        self.rounds.claim(worker, now, self.opening.term)
+    }
+
+    /// The leave to compute a task, by the ticket that leases it.
+    pub fn turn(&self, task: u32, ticket: u64) -> Turn
+        requires { IsLeasedBy ticket (slice_get (machine_of self.now).tasks task) }
+        ensures round { result.round ≡ (machine_of self.now).round }
+        ensures task { result.task ≡ task }
+        ensures ticket { result.ticket ≡ ticket }
+    {
+        Turn::new(self.rounds.round(), task, ticket)
+    }
+
+    /// What the computation of a task needs.
+    pub fn view(&self, alloc: Global, work: &W, task: u32) -> Result<W::View, NoMemory>
+        requires work { self.now.opening.work.value ≡ work.now }
+        requires task { task < length (machine_of self.now).tasks }
+    {
+        work.view(
+            alloc,
+            self.rounds.round(),
+            task,
+            self.rounds.basis(),
+            self.rounds.shelf(),
+        )
+    }
+
+    // Whether the task has this artifact in the round before.
+    fn is_repeated(&self, round: u32, task: u32, artifact: &[u8]) -> bool
+        ensures { result ≡ is_repeated (shelf_of self.now) round task artifact.now }
+    {
+        if round == 0 {
+            return false;
+        }
+        match self.rounds.shelf().get(round - 1, task) {
+            Some(before) => before == artifact,
+            None => false,
+        }
+    }
+
+    // Writes the record of an artifact.
+    fn write(&mut self, alloc: Global, round: u32, task: u32, artifact: &[u8]) -> Result<(), Stop>
+        requires sound { IsSound D.told D.seen self.old }
+        requires round { round ≡ (machine_of self.old).round }
+        ensures sound { IsSound D.told D.seen self.new }
+        ensures gate { OnOk result ((journal_gate (journal_of self.new) + 1 ≡ record_size self.old round task artifact.now) × (record_size self.old round task artifact.now ≤ 2 ^ 31)) }
+        ensures stops { IfErr result (StopsAt (record_size self.old round task artifact.now)) }
+        ensures same { (self.new.opening ≡ self.old.opening) × (self.new.rounds ≡ self.old.rounds) }
+    {
+        let body = if self.is_repeated(round, task, artifact) {
+            MARK.as_slice()
+        } else {
+            artifact
+        };
+        let size = self.journal.size_with(body.len() as u64);
+        if size > LIMIT {
+            return Err(Stop::Full { size });
+        }
+        let piece = Piece::new(alloc, round, task, body)?;
+        match self.journal.reserve(body.len() as u32) {
+            Ok(()) => (),
+            Err(NoRoom::Full { size }) => return Err(Stop::Full { size }),
+            Err(NoRoom::NoMemory) => return Err(Stop::NoMemory),
+        }
+        match self.journal.append(&piece) {
+            Ok(()) => Ok(()),
+            Err(_) => Err(Stop::Disk),
+        }
+    }
+
+    /// Stores the artifact of a task that this ticket leases. It is on the disk once the answer is `Stored`.
+    pub fn publish(
+        &mut self,
+        alloc: Global,
+        work: &W,
+        round: u32,
+        task: u32,
+        ticket: u64,
+        artifact: Vec<u8>,
+    ) -> Publish
+        requires sound { IsSound D.told D.seen self.old }
+        requires work { self.old.opening.work.value ≡ work.now }
+        requires artifact { IsNoMark artifact.items }
+        ensures sound { IsSound D.told D.seen self.new }
+        ensures opening { self.new.opening ≡ self.old.opening }
+        ensures publishes { Publishes round task ticket artifact.items self.old result self.new }
+    {
+        let _ = work;
+        let standing = self.rounds.found(round, task);
+        match standing {
+            Some(Standing::Leased { ticket: by, .. }) if by == ticket => (),
+            _ => {
+                return Publish::Lost {
+                    round: self.rounds.round(),
+                    standing,
+                };
+            }
+        }
+        match self.write(alloc, round, task, &artifact) {
+            Ok(()) => {
+                self.rounds.publish(round, task, ticket, artifact);
+                Publish::Stored
+            }
+            Err(Stop::Disk) => Publish::Disk,
+            Err(Stop::Full { size }) => Publish::Full { size },
+            Err(Stop::NoMemory) => Publish::NoMemory,
+        }
+    }
+
+    /// Gives a lease back by its ticket.
+    pub fn abandon(&mut self, round: u32, task: u32, ticket: u64) -> Abandoned
+        requires { IsSound D.told D.seen self.old }
+        ensures sound { IsSound D.told D.seen self.new }
+        ensures opening { self.new.opening ≡ self.old.opening }
+        ensures step { Abandons round task ticket (machine_of self.old) result (machine_of self.new) }
+        ensures events { events_of self.new ≡ events_of self.old ++ abandons_of task result }
+        ensures shelf { shelf_of self.new ≡ shelf_of self.old }
+        ensures journal { journal_of self.new ≡ journal_of self.old }
+    {
+        self.rounds.abandon(round, task, ticket)
+    }
+
+    /// Frees each task whose lease has run out, and counts them.
+    pub fn expire(&mut self, now: u64) -> u32
+        requires { IsSound D.told D.seen self.old }
+        ensures sound { IsSound D.told D.seen self.new }
+        ensures opening { self.new.opening ≡ self.old.opening }
+        ensures step { Expires now (machine_of self.old) result (machine_of self.new) }
+        ensures events { events_of self.new ≡ events_of self.old ++ expires_of now result }
+        ensures shelf { shelf_of self.new ≡ shelf_of self.old }
+        ensures journal { journal_of self.new ≡ journal_of self.old }
+    {
+        self.rounds.expire(now)
+    }
+
+    /// Begins the next round, or ends the tables after the last.
+    pub fn advance(&mut self, alloc: Global, work: &W) -> Result<(), NoMemory>
+        requires sound { IsSound D.told D.seen self.old }
+        requires work { self.old.opening.work.value ≡ work.now }
+        requires done { AllDone (machine_of self.old).tasks }
+        requires going { (machine_of self.old).ended ≡ false }
+        ensures sound { IsSound D.told D.seen self.new }
+        ensures opening { self.new.opening ≡ self.old.opening }
+        ensures follows { OnOk result (FollowsRound self.old self.new) }
+        ensures journal { journal_of self.new ≡ journal_of self.old }
+        ensures err { OnErr result (self.new ≡ self.old) }
+    {
+        let next = work.plan(alloc, self.rounds.round() + 1, self.rounds.shelf())?;
+        self.rounds.advance(alloc, next)
+    }
+
+    /// The disk, once the tables are done with.
+    pub fn into_disk(self) -> D
+        ensures { result ≡ journal_disk (journal_of self) }
+    {
+        let Tables {
+            opening: _,
+            rounds: _,
+            journal,
+        } = self;
+        journal.into_disk()
+    }
+}
