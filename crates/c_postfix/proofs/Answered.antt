@@ -1,8 +1,8 @@
 -- What an answer of code says, where its parser reads a symbol exactly.
 use Rattle.std.proofs.Common.{◌≡◌, ℕ, Ok, Err, subst}
-use Rattle.c_reads.specs.declared.error.ReadError.TheVariants as errors
+use Rattle.c_cursor.specs.declared.error.ReadError.TheVariants as errors
 use Rattle.c_reads.specs.Exact.{Stack, Read, Refused, Ends, Does}
-use Rattle.c_reads.specs.Parsers.{Input, Outcome, Parser, Reads}
+use Rattle.c_cursor.specs.Parsers.{Input, Outcome, Parser, Reads}
 
 module _ {A : Type 0} {H : Stack → Type 0} {xs : Stack} {P : A → Input → Type 0} {p : Parser A} {start : Input} (does : Does H xs P p start) where
   pub ends_at : (o : Outcome A) → p start ≡ o → Ends H xs P start o

@@ -5,10 +5,11 @@ use Rattle.c_tree.specs.declared.lexeme.Lexeme.{Lexeme}
 use Rattle.c_grammar.specs.Marks as m
 use Rattle.c_grammar.specs.Terminals as w
 use Rattle.c_grammar.specs.Tokens.{bytes_of}
-use Rattle.c_reads.specs.declared.error.ReadError.{ReadError}
-use Rattle.c_reads.specs.declared.error.ReadError.TheVariants as errors
-use Rattle.c_reads.specs.Parsers.{Input, Parser, take, on, sees, turns}
-use Rattle.c_reads.specs.Postfix.{texts_from, one_argument, some_arguments, arguments_from, begins_operator, operator, operators_from}
+use Rattle.c_cursor.specs.declared.error.ReadError.{ReadError}
+use Rattle.c_cursor.specs.declared.error.ReadError.TheVariants as errors
+use Rattle.c_cursor.specs.PostfixMarks.{begins_operator}
+use Rattle.c_cursor.specs.Parsers.{Input, Parser, take, on, sees, turns}
+use Rattle.c_reads.specs.Postfix.{texts_from, one_argument, some_arguments, arguments_from, operator, operators_from}
 
 -- ---- neighbouring texts
 pub texts_stop : (n : ℕ) (before : List ℕ) (i : Input) → sees w.text i ≡ false → texts_from (suc n) before i ≡ Ok (before, i)

@@ -2,8 +2,8 @@
 use Rattle.std.specs.Prelude.{ℕ, Result}
 use Rattle.std.specs.declared.alloc.Global.{Global}
 use denote.Ref.{MutBor}
-use Rattle.c_reads.specs.declared.error.ReadError.{ReadError}
-use Rattle.c_reads.specs.Parsers.{Input, Parser, Reads}
+use Rattle.c_cursor.specs.declared.error.ReadError.{ReadError}
+use Rattle.c_cursor.specs.Parsers.{Input, Parser, Reads}
 
 -- it may be called at any place, and computes the parser for the number
 pub record Runs {X : Type 0} (parses : ℕ → Parser X) (depth : ℕ) (pre : Global → ℕ → MutBor Input → Type 0)

@@ -1,9 +1,9 @@
 ghost use Rattle.std.specs.Prelude.{◌≡◌};
 ghost use Rattle.c_postfix.specs.Runs.{Runs};
-ghost use Rattle.c_reads.specs.Parsers.{Reads};
+ghost use Rattle.c_cursor.specs.Parsers.{Reads};
 
-use c_reads::{Cursor, ReadError};
-use c_tree::Expr;
+use c_cursor::{Cursor, ReadError};
+use c_tree::HeldExpr;
 use std::alloc::Global;
 use std::marker::PhantomData;
 
@@ -11,7 +11,7 @@ use std::marker::PhantomData;
 pub trait Inner {
     ghost use Rattle.std.specs.Prelude.{ℕ};
     ghost use Rattle.c_tree.specs.declared.expression.Expr.{Expr};
-    ghost use Rattle.c_reads.specs.Parsers.{Parser};
+    ghost use Rattle.c_cursor.specs.Parsers.{Parser};
 
     ghost inside: { ℕ → Parser Expr };
 
@@ -33,17 +33,17 @@ pub struct Postfix<S, F, G> {
 
 impl<
     S: Inner,
-    F: Fn(Global, usize, &mut Cursor<'_>) -> Result<Expr, ReadError>,
-    G: Fn(Global, usize, &mut Cursor<'_>) -> Result<Expr, ReadError>,
+    F: Fn(Global, usize, &mut Cursor<'_>) -> Result<HeldExpr, ReadError>,
+    G: Fn(Global, usize, &mut Cursor<'_>) -> Result<HeldExpr, ReadError>,
 > Postfix<S, F, G> {
-    pub(crate) fn inside(&self, cursor: &mut Cursor<'_>) -> Result<Expr, ReadError>
+    pub(crate) fn inside(&self, cursor: &mut Cursor<'_>) -> Result<HeldExpr, ReadError>
         requires { Runs S.inside self.now.depth (F.pre self.now.inside) (F.post self.now.inside) }
         ensures { Reads (S.inside self.now.depth cursor.old) result cursor.new }
     {
         (self.inside)(self.alloc, self.depth, cursor)
     }
 
-    pub(crate) fn argument(&self, cursor: &mut Cursor<'_>) -> Result<Expr, ReadError>
+    pub(crate) fn argument(&self, cursor: &mut Cursor<'_>) -> Result<HeldExpr, ReadError>
         requires { Runs S.argument self.now.depth (G.pre self.now.argument) (G.post self.now.argument) }
         ensures { Reads (S.argument self.now.depth cursor.old) result cursor.new }
     {

@@ -5,7 +5,6 @@ mod inner;
 mod nodes;
 mod postfix;
 mod primary;
-#[cfg(test)]
-mod tests;
 
 pub use inner::{Inner, Postfix};
+pub use primary::{character, name, number, text};

@@ -3,26 +3,26 @@ ghost use Rattle.c_grammar.specs.Items.{Sym, nt, sym as symbol};
 ghost use Rattle.c_grammar.specs.Marks as m;
 ghost use Rattle.c_postfix.specs.Runs.{Runs};
 ghost use Rattle.c_reads.specs.Exact.{Stops, Read, Refused, Makes};
-ghost use Rattle.c_reads.specs.Parsers.{Reads};
+ghost use Rattle.c_cursor.specs.Parsers.{Reads};
 ghost use Rattle.c_reads.specs.Postfix as spec;
 ghost use Rattle.c_reads.specs.Postfix.{Inside, postfix_goes_on};
 
 use crate::inner::{Inner, Postfix};
 use crate::nodes;
-use c_reads::{Cursor, ReadError, postfix_is_exact};
+use c_cursor::{Cursor, ReadError};
+use c_reads::postfix_is_exact;
 use c_syntax::marks;
-use c_tree::Expr;
-use sqlite_items::Items;
+use c_tree::{HeldArguments, HeldExpr};
 use std::alloc::Global;
 
 impl<
     S: Inner,
-    F: Fn(Global, usize, &mut Cursor<'_>) -> Result<Expr, ReadError>,
-    G: Fn(Global, usize, &mut Cursor<'_>) -> Result<Expr, ReadError>,
+    F: Fn(Global, usize, &mut Cursor<'_>) -> Result<HeldExpr, ReadError>,
+    G: Fn(Global, usize, &mut Cursor<'_>) -> Result<HeldExpr, ReadError>,
 > Postfix<S, F, G> {
     // An expression up to the `]` that closes it.
     #[tactic(auto, unfolding(c_reads::specs::Postfix::enclosed))]
-    fn in_brackets(&self, cursor: &mut Cursor<'_>) -> Result<Expr, ReadError>
+    fn in_brackets(&self, cursor: &mut Cursor<'_>) -> Result<HeldExpr, ReadError>
         requires { Runs S.inside self.now.depth (F.pre self.now.inside) (F.post self.now.inside) }
         ensures { Reads (spec.enclosed (S.inside self.now.depth) m.right_bracket cursor.old) result cursor.new }
     {
@@ -35,7 +35,7 @@ impl<
 
     // A subscript behind its operand (6.5.2.1).
     #[tactic(auto, unfolding(c_reads::specs::Postfix::subscript))]
-    fn subscript(&self, left: Expr, cursor: &mut Cursor<'_>) -> Result<Expr, ReadError>
+    fn subscript(&self, left: HeldExpr, cursor: &mut Cursor<'_>) -> Result<HeldExpr, ReadError>
         requires { Runs S.inside self.now.depth (F.pre self.now.inside) (F.post self.now.inside) }
         ensures { Reads (spec.subscript (S.inside self.now.depth) (S.argument self.now.depth) left cursor.old) result cursor.new }
     {
@@ -45,7 +45,7 @@ impl<
     }
 
     #[tactic(auto, unfolding(c_reads::specs::Postfix::one_argument))]
-    fn one_argument(&self, cursor: &mut Cursor<'_>) -> Result<Expr, ReadError>
+    fn one_argument(&self, cursor: &mut Cursor<'_>) -> Result<HeldExpr, ReadError>
         requires { Runs S.argument self.now.depth (G.pre self.now.argument) (G.post self.now.argument) }
         ensures { Reads (spec.one_argument (S.inside self.now.depth) (S.argument self.now.depth) cursor.old) result cursor.new }
     {
@@ -56,12 +56,12 @@ impl<
     }
 
     // Arguments, of which there is one at least (6.5.2).
-    fn some_arguments(&self, cursor: &mut Cursor<'_>) -> Result<Items<Expr>, ReadError>
+    fn some_arguments(&self, cursor: &mut Cursor<'_>) -> Result<HeldArguments, ReadError>
         requires { Runs S.argument self.now.depth (G.pre self.now.argument) (G.post self.now.argument) }
         ensures { Reads (spec.some_arguments (S.inside self.now.depth) (S.argument self.now.depth) cursor.old) result cursor.new }
     {
         let first = self.one_argument(cursor)?;
-        let mut found = Items::new(self.alloc);
+        let mut found = HeldArguments::new(self.alloc);
         found.push(first)?;
         for _turn in 0..cursor.turns() {
             if !cursor.sees_mark(marks::COMMA) {
@@ -74,20 +74,20 @@ impl<
         Err(ReadError::Spent)
     }
 
-    #[tactic(auto, unfolding(c_reads::specs::Postfix::arguments, c_reads::specs::Parsers::on))]
-    fn arguments(&self, cursor: &mut Cursor<'_>) -> Result<Items<Expr>, ReadError>
+    #[tactic(auto, unfolding(c_reads::specs::Postfix::arguments, c_cursor::specs::Parsers::on))]
+    fn arguments(&self, cursor: &mut Cursor<'_>) -> Result<HeldArguments, ReadError>
         requires { Runs S.argument self.now.depth (G.pre self.now.argument) (G.post self.now.argument) }
         ensures { Reads (spec.arguments (S.inside self.now.depth) (S.argument self.now.depth) cursor.old) result cursor.new }
     {
         if cursor.sees_mark(marks::RIGHT_PARENTHESIS) {
-            return Ok(Items::new(self.alloc));
+            return Ok(HeldArguments::new(self.alloc));
         }
         self.some_arguments(cursor)
     }
 
     // Arguments up to the `)` that closes them.
     #[tactic(auto, unfolding(c_reads::specs::Postfix::enclosed))]
-    fn in_parentheses(&self, cursor: &mut Cursor<'_>) -> Result<Items<Expr>, ReadError>
+    fn in_parentheses(&self, cursor: &mut Cursor<'_>) -> Result<HeldArguments, ReadError>
         requires { Runs S.argument self.now.depth (G.pre self.now.argument) (G.post self.now.argument) }
         ensures { Reads (spec.enclosed (spec.arguments (S.inside self.now.depth) (S.argument self.now.depth)) m.right_parenthesis cursor.old) result cursor.new }
     {
@@ -100,7 +100,7 @@ impl<
 
     // A call behind its operand (6.5.2.2).
     #[tactic(auto, unfolding(c_reads::specs::Postfix::call))]
-    fn call(&self, callee: Expr, cursor: &mut Cursor<'_>) -> Result<Expr, ReadError>
+    fn call(&self, callee: HeldExpr, cursor: &mut Cursor<'_>) -> Result<HeldExpr, ReadError>
         requires { Runs S.argument self.now.depth (G.pre self.now.argument) (G.post self.now.argument) }
         ensures { Reads (spec.call (S.inside self.now.depth) (S.argument self.now.depth) callee cursor.old) result cursor.new }
     {
@@ -111,7 +111,7 @@ impl<
 
     // `.` and a name (6.5.2.3).
     #[tactic(auto, unfolding(c_reads::specs::Postfix::member))]
-    fn member(&self, left: Expr, cursor: &mut Cursor<'_>) -> Result<Expr, ReadError>
+    fn member(&self, left: HeldExpr, cursor: &mut Cursor<'_>) -> Result<HeldExpr, ReadError>
         ensures { Reads (spec.member (S.inside self.now.depth) (S.argument self.now.depth) left cursor.old) result cursor.new }
     {
         let token = cursor.take_operator(marks::PERIOD)?;
@@ -121,7 +121,7 @@ impl<
 
     // `->` and a name (6.5.2.3).
     #[tactic(auto, unfolding(c_reads::specs::Postfix::arrow))]
-    fn arrow(&self, left: Expr, cursor: &mut Cursor<'_>) -> Result<Expr, ReadError>
+    fn arrow(&self, left: HeldExpr, cursor: &mut Cursor<'_>) -> Result<HeldExpr, ReadError>
         ensures { Reads (spec.arrow (S.inside self.now.depth) (S.argument self.now.depth) left cursor.old) result cursor.new }
     {
         let token = cursor.take_operator(marks::ARROW)?;
@@ -131,7 +131,7 @@ impl<
 
     // `++` or `--` behind its operand (6.5.2.4).
     #[tactic(auto, unfolding(c_reads::specs::Postfix::bump))]
-    fn bump(&self, of: Expr, cursor: &mut Cursor<'_>) -> Result<Expr, ReadError>
+    fn bump(&self, of: HeldExpr, cursor: &mut Cursor<'_>) -> Result<HeldExpr, ReadError>
         ensures { Reads (spec.bump (S.inside self.now.depth) (S.argument self.now.depth) of cursor.old) result cursor.new }
     {
         let token = cursor.take_bump()?;
@@ -139,8 +139,8 @@ impl<
     }
 
     // One postfix operator behind its operand.
-    #[tactic(auto, unfolding(c_reads::specs::Postfix::operator, c_reads::specs::Parsers::on))]
-    fn operator(&self, left: Expr, cursor: &mut Cursor<'_>) -> Result<Expr, ReadError>
+    #[tactic(auto, unfolding(c_reads::specs::Postfix::operator, c_cursor::specs::Parsers::on))]
+    fn operator(&self, left: HeldExpr, cursor: &mut Cursor<'_>) -> Result<HeldExpr, ReadError>
         requires inside { Runs S.inside self.now.depth (F.pre self.now.inside) (F.post self.now.inside) }
         requires argument { Runs S.argument self.now.depth (G.pre self.now.argument) (G.post self.now.argument) }
         ensures { Reads (spec.operator (S.inside self.now.depth) (S.argument self.now.depth) left cursor.old) result cursor.new }
@@ -161,7 +161,7 @@ impl<
     }
 
     // All the postfix operators behind an operand.
-    fn operators(&self, mut left: Expr, cursor: &mut Cursor<'_>) -> Result<Expr, ReadError>
+    fn operators(&self, mut left: HeldExpr, cursor: &mut Cursor<'_>) -> Result<HeldExpr, ReadError>
         requires inside { Runs S.inside self.now.depth (F.pre self.now.inside) (F.post self.now.inside) }
         requires argument { Runs S.argument self.now.depth (G.pre self.now.argument) (G.post self.now.argument) }
         ensures { Reads (spec.operators (S.inside self.now.depth) (S.argument self.now.depth) left cursor.old) result cursor.new }
@@ -177,7 +177,7 @@ impl<
 
     // What the parser of postfix expressions computes.
     #[tactic(auto, unfolding(c_reads::specs::Postfix::postfix))]
-    fn computed(&self, cursor: &mut Cursor<'_>) -> Result<Expr, ReadError>
+    fn computed(&self, cursor: &mut Cursor<'_>) -> Result<HeldExpr, ReadError>
         requires inside { Runs S.inside self.now.depth (F.pre self.now.inside) (F.post self.now.inside) }
         requires argument { Runs S.argument self.now.depth (G.pre self.now.argument) (G.post self.now.argument) }
         ensures { Reads (spec.postfix (S.inside self.now.depth) (S.argument self.now.depth) cursor.old) result cursor.new }
@@ -188,7 +188,7 @@ impl<
 
     /// A postfix expression (6.5.2), and no more than it. Where the functions inside read exactly what stands there, so does
     /// this one: a refusal names the first token with which nothing goes on.
-    pub fn postfix(&self, cursor: &mut Cursor<'_>) -> Result<Expr, ReadError>
+    pub fn postfix(&self, cursor: &mut Cursor<'_>) -> Result<HeldExpr, ReadError>
         requires inside { Runs S.inside self.now.depth (F.pre self.now.inside) (F.post self.now.inside) }
         requires argument { Runs S.argument self.now.depth (G.pre self.now.argument) (G.post self.now.argument) }
         ensures reads { Reads (spec.postfix (S.inside self.now.depth) (S.argument self.now.depth) cursor.old) result cursor.new }

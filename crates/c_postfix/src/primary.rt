@@ -2,21 +2,21 @@ ghost use Rattle.std.specs.Prelude.{◌≡◌, ◌++◌, OnOk};
 ghost use Rattle.c_grammar.specs.Terminals as w;
 ghost use Rattle.c_grammar.specs.Tokens.{bytes_of};
 ghost use Rattle.c_postfix.specs.Runs.{Runs};
-ghost use Rattle.c_reads.specs.Parsers.{Reads};
+ghost use Rattle.c_cursor.specs.Parsers.{Reads};
 ghost use Rattle.c_reads.specs.Postfix as spec;
 
 use crate::inner::{Inner, Postfix};
 use crate::nodes;
-use c_reads::kinds::bytes_in;
-use c_reads::{Cursor, ReadError};
+use c_cursor::kinds::bytes_in;
+use c_cursor::{Cursor, ReadError};
 use c_syntax::marks;
-use c_tree::{Expr, Lexeme};
+use c_tree::{HeldExpr, Lexeme};
 use sqlite_items::Items;
 use std::alloc::{AllocError, Global};
 
 /// A name that is no typedef name (ISO/IEC 9899:1999, 6.5.1).
 #[tactic(auto, unfolding(c_reads::specs::Postfix::name))]
-pub fn name(cursor: &mut Cursor<'_>) -> Result<Expr, ReadError>
+pub fn name(cursor: &mut Cursor<'_>) -> Result<HeldExpr, ReadError>
     ensures { Reads (spec.name cursor.old) result cursor.new }
 {
     cursor.enter()?;
@@ -27,7 +27,7 @@ pub fn name(cursor: &mut Cursor<'_>) -> Result<Expr, ReadError>
 
 /// An integer constant (6.4.4.1).
 #[tactic(auto, unfolding(c_reads::specs::Postfix::constant))]
-pub fn number(cursor: &mut Cursor<'_>) -> Result<Expr, ReadError>
+pub fn number(cursor: &mut Cursor<'_>) -> Result<HeldExpr, ReadError>
     ensures { Reads (spec.constant w.number cursor.old) result cursor.new }
 {
     cursor.enter()?;
@@ -38,7 +38,7 @@ pub fn number(cursor: &mut Cursor<'_>) -> Result<Expr, ReadError>
 
 /// A character constant (6.4.4.4).
 #[tactic(auto, unfolding(c_reads::specs::Postfix::constant))]
-pub fn character(cursor: &mut Cursor<'_>) -> Result<Expr, ReadError>
+pub fn character(cursor: &mut Cursor<'_>) -> Result<HeldExpr, ReadError>
     ensures { Reads (spec.constant w.character cursor.old) result cursor.new }
 {
     cursor.enter()?;
@@ -75,7 +75,7 @@ pub fn texts(
 
 /// A string literal, its neighbours joined (6.4.5).
 #[tactic(auto, unfolding(c_reads::specs::Postfix::text))]
-pub fn text(alloc: Global, cursor: &mut Cursor<'_>) -> Result<Expr, ReadError>
+pub fn text(alloc: Global, cursor: &mut Cursor<'_>) -> Result<HeldExpr, ReadError>
     ensures { Reads (spec.text cursor.old) result cursor.new }
 {
     cursor.enter()?;
@@ -88,12 +88,12 @@ pub fn text(alloc: Global, cursor: &mut Cursor<'_>) -> Result<Expr, ReadError>
 
 impl<
     S: Inner,
-    F: Fn(Global, usize, &mut Cursor<'_>) -> Result<Expr, ReadError>,
-    G: Fn(Global, usize, &mut Cursor<'_>) -> Result<Expr, ReadError>,
+    F: Fn(Global, usize, &mut Cursor<'_>) -> Result<HeldExpr, ReadError>,
+    G: Fn(Global, usize, &mut Cursor<'_>) -> Result<HeldExpr, ReadError>,
 > Postfix<S, F, G> {
     /// An expression in parentheses (6.5.1), which make no node.
     #[tactic(auto, unfolding(c_reads::specs::Postfix::parenthesised))]
-    pub(crate) fn parenthesised(&self, cursor: &mut Cursor<'_>) -> Result<Expr, ReadError>
+    pub(crate) fn parenthesised(&self, cursor: &mut Cursor<'_>) -> Result<HeldExpr, ReadError>
         requires { Runs S.inside self.now.depth (F.pre self.now.inside) (F.post self.now.inside) }
         ensures { Reads (spec.parenthesised (S.inside self.now.depth) (S.argument self.now.depth) cursor.old) result cursor.new }
     {
@@ -106,8 +106,8 @@ impl<
     }
 
     /// A primary expression (6.5.1).
-    #[tactic(auto, unfolding(c_reads::specs::Postfix::primary, c_reads::specs::Parsers::on))]
-    pub(crate) fn primary(&self, cursor: &mut Cursor<'_>) -> Result<Expr, ReadError>
+    #[tactic(auto, unfolding(c_reads::specs::Postfix::primary, c_cursor::specs::Parsers::on))]
+    pub(crate) fn primary(&self, cursor: &mut Cursor<'_>) -> Result<HeldExpr, ReadError>
         requires { Runs S.inside self.now.depth (F.pre self.now.inside) (F.post self.now.inside) }
         ensures { Reads (spec.primary (S.inside self.now.depth) (S.argument self.now.depth) cursor.old) result cursor.new }
     {

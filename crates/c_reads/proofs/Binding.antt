@@ -2,9 +2,9 @@
 use Rattle.std.proofs.Common.{◌≡◌, ℕ, List, [], ◌∷◌, ◌++◌, Ok, Err, refl, sym, ap, ◌∙◌, subst, append_assoc}
 use Rattle.c_tree.specs.declared.lexeme.Lexeme.{Lexeme}
 use Rattle.c_grammar.specs.Derives.{Begins}
-use Rattle.c_reads.specs.declared.error.ReadError.TheVariants as errors
+use Rattle.c_cursor.specs.declared.error.ReadError.TheVariants as errors
 use Rattle.c_reads.specs.Exact.{Stack, Read, Refused, Ends, Does}
-use Rattle.c_reads.specs.Parsers.{Input, Outcome, Parser, and_then, ◌>>=◌, pure}
+use Rattle.c_cursor.specs.Parsers.{Input, Outcome, Parser, and_then, ◌>>=◌, pure}
 
 -- what holds of the stack behind also holds of it with these in front
 pub record Follows (H1 H2 : Stack → Type 0) (ys : Stack) : Type 0 where

@@ -15,9 +15,10 @@ use Rattle.c_grammar.specs.Terminals.{Terminal}
 use Rattle.c_grammar.specs.Terminals as w
 use Rattle.c_grammar.specs.Tokens.{is_mark, is_mark_of, is_name, is_number, is_character, is_text, name_in, bytes_of}
 use Rattle.c_grammar.specs.Trees.{expression}
+use Rattle.c_cursor.specs.PostfixMarks.{operator_marks, begins_operator}
 use Rattle.c_reads.specs.Exact.{Stack, Stops, Makes, Does, Parses}
-use Rattle.c_reads.specs.Parsers.{Input, Parser, ◌>>=◌, turns}
-use Rattle.c_reads.specs.Postfix.{name, constant, texts_from, texts, text, operator_marks, begins_operator, enclosed, parenthesised, primary, subscript, one_argument, arguments_from, some_arguments, arguments, call, member, arrow, bump, operator, operators_from, operators, postfix, Inside, postfix_goes_on}
+use Rattle.c_cursor.specs.Parsers.{Input, Parser, ◌>>=◌, turns}
+use Rattle.c_reads.specs.Postfix.{name, constant, texts_from, texts, text, enclosed, parenthesised, primary, subscript, one_argument, arguments_from, some_arguments, arguments, call, member, arrow, bump, operator, operators_from, operators, postfix, Inside, postfix_goes_on}
 use Rattle.c_reads.proofs.Binding.{Follows, bind, Any, any_follows, give, weaken, here, loosen}
 use Rattle.c_reads.proofs.Steps.{◌then◌, nothing, by_rule, shrinks, took_less, undone, behind_change, tested, taking, changing, either, either_then, rule, stopped, Picks, head_of, chooses}
 

@@ -7,9 +7,9 @@ use Rattle.c_grammar.specs.Items.{Sym, In, Out, Item, term, act, nt, some, chang
 use Rattle.c_grammar.specs.Productions.{Rule}
 use Rattle.c_grammar.specs.State.{State}
 use Rattle.c_grammar.specs.Terminals.{Terminal}
-use Rattle.c_reads.specs.declared.error.ReadError.TheVariants as errors
+use Rattle.c_cursor.specs.declared.error.ReadError.TheVariants as errors
 use Rattle.c_reads.specs.Exact.{Stack, Stops, Read, Refused, Makes, Ends, Does}
-use Rattle.c_reads.specs.Parsers.{Input, Outcome, Parser, and_then, ◌>>=◌, take, taken, change, sees, sees_in, on}
+use Rattle.c_cursor.specs.Parsers.{Input, Outcome, Parser, and_then, ◌>>=◌, take, taken, change, sees, sees_in, on}
 use Rattle.c_reads.proofs.Binding.{Follows, bind, Any, any_follows}
 
 infixl 12 ◌then◌

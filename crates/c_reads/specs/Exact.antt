@@ -4,8 +4,8 @@ use Rattle.c_tree.specs.declared.lexeme.Lexeme.{Lexeme}
 use Rattle.c_grammar.specs.Derives.{Derives, Begins}
 use Rattle.c_grammar.specs.Items.{Sym, In, Out, Item, nt, Shape, sym as symbol}
 use Rattle.c_grammar.specs.State.{State}
-use Rattle.c_reads.specs.declared.error.ReadError.TheVariants as errors
-use Rattle.c_reads.specs.Parsers.{Input, Outcome, Parser}
+use Rattle.c_cursor.specs.declared.error.ReadError.TheVariants as errors
+use Rattle.c_cursor.specs.Parsers.{Input, Outcome, Parser}
 
 -- shapes that are still to come
 abbrev pub Stack : Type 0

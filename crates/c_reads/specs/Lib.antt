@@ -1,4 +1,2 @@
 pub mod Exact
-pub mod Log
-pub mod Parsers
 pub mod Postfix

@@ -11,9 +11,10 @@ use Rattle.c_grammar.specs.Terminals.{Terminal}
 use Rattle.c_grammar.specs.Terminals as w
 use Rattle.c_grammar.specs.Tokens.{is_mark, is_mark_of, is_text, name_of, bytes_of}
 use Rattle.c_grammar.specs.Trees.{expression, constant_in, goes_up}
-use Rattle.c_reads.specs.declared.error.ReadError.TheVariants as errors
+use Rattle.c_cursor.specs.declared.error.ReadError.TheVariants as errors
+use Rattle.c_cursor.specs.PostfixMarks.{begins_operator}
+use Rattle.c_cursor.specs.Parsers.{Input, Parser, ◌>>=◌, ◌>>◌, pure, take, change, on, turns}
 use Rattle.c_reads.specs.Exact.{Stack, Stops, Parses}
-use Rattle.c_reads.specs.Parsers.{Input, Parser, ◌>>=◌, ◌>>◌, pure, take, change, on, turns}
 
 -- ---- primary expressions
 unfoldable pub name : Parser Expr
@@ -45,14 +46,7 @@ text = do
   change leave
   pure (expression t (e.Text bytes))
 
--- ---- where postfix operators begin, and what they enclose
--- the punctuators with which one begins
-abbrev pub operator_marks : List ℕ
-operator_marks = m.left_bracket ∷ m.left_parenthesis ∷ m.period ∷ m.arrow ∷ m.plus_plus ∷ m.minus_minus ∷ []
-
-abbrev pub begins_operator : Terminal
-begins_operator = w.terminal (λ s t. is_mark_of operator_marks t.kind) w.unchanged
-
+-- ---- what postfix operators enclose
 -- what stands between brackets or parentheses, up to the mark that closes them
 unfoldable pub enclosed : {A : Type 0} → Parser A → ℕ → Parser A
 enclosed p mark = do

@@ -1,23 +1,8 @@
-//! Reading tokens by the grammar: a cursor over them, and what the proof of a parser needs, tried on primary and postfix
-//! expressions over parsers of the expressions that they hold. `specs/Parsers.antt` has parsers as functions,
-//! `specs/Exact.antt` says what it means that one reads a symbol of the grammar and no more.
+//! What it means that a parser reads the grammar exactly, and what the proof of one needs, tried on primary and postfix expressions
+//! over parsers of the expressions that they hold. `specs/Exact.antt` says what it means that one reads a symbol of the grammar and
+//! no more; the parsers themselves, as functions, stand in the crate of the cursor.
 #![tactic(auto)]
 
-mod cursor;
-mod error;
-mod frame;
-mod frames;
-pub mod keywords;
-pub mod kinds;
 mod laws;
-mod loops;
-mod nesting;
-pub mod operators;
-mod scopes;
-#[cfg(test)]
-mod tests;
-mod visible;
 
-pub use cursor::Cursor;
-pub use error::ReadError;
 pub use laws::postfix_is_exact;

@@ -6,13 +6,24 @@ use sqlite_items::Items;
 use sv_base::FileId;
 
 /// The syntax tree of a file (ISO/IEC 9899:1999, 6.9).
-#[derive(Drop)]
 pub struct Tree {
     /// The number of the file's own name.
     pub file: FileId,
     /// The distinct names of the file in the order in which they are first seen, each as its bytes.
     pub names: Items<Items<u8>>,
     pub items: Items<Item>,
+}
+
+impl Drop for Tree {
+    fn drop(self) {
+        let Tree {
+            file: _,
+            names,
+            items,
+        } = self;
+        let _ = names;
+        let _ = items;
+    }
 }
 
 /// An external declaration (6.9). A lone `;` is none.

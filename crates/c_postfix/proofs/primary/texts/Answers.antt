@@ -1,7 +1,7 @@
 use Rattle.std.proofs.Common.{rules, ◌≡◌, ◌+◌, ◌-◌, true, false, sym, ap, ◌∙◌, arith}
 use Rattle.std.proofs.lemmas.Grind.{common_steps}
 use Rattle.c_grammar.specs.Terminals as w
-use Rattle.c_reads.specs.Parsers.{on, sees}
+use Rattle.c_cursor.specs.Parsers.{on, sees}
 use Rattle.c_reads.specs.Postfix.{texts, texts_from}
 use Rattle.c_postfix.proofs.Loops.{texts_stop, texts_go, texts_spent}
 use Rattle.c_postfix.proofs.Turns.{begun, one_more, no_more}

@@ -1,7 +1,7 @@
 use Rattle.std.proofs.Common.{◌≡◌, Err, subst}
-use Rattle.c_reads.specs.declared.error.ReadError.{ReadError}
-use Rattle.c_reads.specs.declared.error.ReadError.TheVariants as errors
-use Rattle.c_reads.specs.Parsers.{Reads}
+use Rattle.c_cursor.specs.declared.error.ReadError.{ReadError}
+use Rattle.c_cursor.specs.declared.error.ReadError.TheVariants as errors
+use Rattle.c_cursor.specs.Parsers.{Reads}
 use Rattle.c_reads.specs.Postfix.{postfix}
 use Rattle.c_postfix.proofs.Answered.{read, given, refused, never_spent}
 use Rattle.c_postfix.proofs.inner.Postfix.postfix.Goals as goal

@@ -3,7 +3,7 @@ use Rattle.std.proofs.lemmas.Grind.{common_steps}
 use Rattle.c_tree.specs.declared.expression.Expr.{Expr}
 use Rattle.c_grammar.specs.Marks as m
 use Rattle.c_grammar.specs.Terminals as w
-use Rattle.c_reads.specs.Parsers.{on, sees}
+use Rattle.c_cursor.specs.Parsers.{on, sees}
 use Rattle.c_reads.specs.Postfix.{some_arguments, arguments_from}
 use Rattle.c_postfix.proofs.Loops.{some_begin, arguments_stop, arguments_go, arguments_spent}
 use Rattle.c_postfix.proofs.Turns.{begun, one_more, no_more}
