@@ -1,7 +1,9 @@
+use Rattle.std.proofs.Common.{◌≡◌}
 use Rattle.std.proofs.lemmas.Result.{IfOk-weaker}
-use Rattle.clap.specs.Words.{AddsSubcommand}
-use Rattle.cli_words.proofs.Plain.{no_globals}
+use Rattle.clap.specs.Words.{AddsSubcommand, app_of, with_subcommand}
+use Rattle.cli_words.proofs.Plain.{plain_is_local}
 use Rattle.cli_words.proofs.command.with_command.Goals as goal
 
 pub returns : goal.returns
-returns c = IfOk-weaker _ _ _ (λ r (added : AddsSubcommand c.args.top c.args.command r). added.shape (no_globals _ _ _ _ c.requires.plain)) c.subcommand.ensures
+returns c = IfOk-weaker c.subcommand.result (AddsSubcommand c.args.top c.args.command) (λ r. app_of r ≡ with_subcommand (app_of c.args.top) (app_of c.args.command).top)
+    (λ r added. added.shape (plain_is_local c.args.command c.requires.plain)) c.subcommand.ensures
