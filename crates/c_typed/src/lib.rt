@@ -3,11 +3,13 @@
 #![tactic(auto)]
 
 mod classes;
+mod copies;
 mod expression;
 mod holders;
 mod layout;
 mod program;
 mod reads;
+mod renumbering;
 mod scope;
 mod statement;
 mod table;
@@ -20,6 +22,7 @@ pub use program::{
     InitialPart, LinkedName, SitePlace, Typed, TypedBody, TypedFunction, TypedObject,
 };
 pub use reads::TypeKind;
+pub use renumbering::{Renumbering, Target};
 pub use scope::{ParamEntry, Scope, ScopeEntry, ScopeTag, Seen};
 pub use statement::TypedStatement;
 pub use table::{Extent, MemberType, RecordType, TypeForm, TypeId, TypeRow, TypeTable};

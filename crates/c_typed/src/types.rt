@@ -60,6 +60,23 @@ impl Types {
         Ok(types)
     }
 
+    /// The table with these rows, of which nothing is noted.
+    pub(crate) fn over(alloc: Global, table: TypeTable) -> Result<Types, NoMemory> {
+        let mut made = Vec::new(alloc);
+        for _ in 0..table.rows.len() {
+            made.push(Made {
+                pointer: None,
+                other: None,
+            })?;
+        }
+        Ok(Types {
+            table,
+            alloc,
+            made,
+            classes: Classes::new(alloc),
+        })
+    }
+
     pub fn alloc(&self) -> Global {
         self.alloc
     }
@@ -108,19 +125,27 @@ impl Types {
         }
     }
 
-    pub fn pointer_to(&mut self, of: TypeId) -> Result<TypeId, NoMemory> {
-        let made = self.made(of);
-        if let Some(pointer) = made.pointer {
-            return Ok(pointer);
-        }
-        let pointer = self.add(TypeForm::Pointer(of), false, pointer_extent())?;
+    pub(crate) fn known_pointer(&self, of: TypeId) -> Option<TypeId> {
+        self.made(of).pointer
+    }
+
+    pub(crate) fn note_pointer(&mut self, of: TypeId, pointer: TypeId) {
+        let other = self.made(of).other;
         self.note(
             of,
             Made {
                 pointer: Some(pointer),
-                other: made.other,
+                other,
             },
         );
+    }
+
+    pub fn pointer_to(&mut self, of: TypeId) -> Result<TypeId, NoMemory> {
+        if let Some(pointer) = self.known_pointer(of) {
+            return Ok(pointer);
+        }
+        let pointer = self.add(TypeForm::Pointer(of), false, pointer_extent())?;
+        self.note_pointer(of, pointer);
         Ok(pointer)
     }
 
@@ -228,7 +253,7 @@ impl Types {
         Ok(other)
     }
 
-    fn pair(&mut self, one: TypeId, other: TypeId) {
+    pub(crate) fn pair(&mut self, one: TypeId, other: TypeId) {
         let made = self.made(one);
         self.note(
             one,
@@ -286,6 +311,39 @@ impl Types {
             record.extent = extent;
         }
         Ok(())
+    }
+
+    /// The class of an array or a function by those of its parts.
+    pub(crate) fn class_of_row(&mut self, of: TypeId) -> Result<u32, NoMemory> {
+        match self.table.kind(of) {
+            TypeKind::Array(element, count) => {
+                let element = self.table.class(element);
+                self.classes.of_array(element, count)
+            }
+            TypeKind::Function(gives) => {
+                let params = self.table.params(of);
+                let dots = self.table.has_dots(of);
+                self.classes.of_function(&self.table, gives, params, dots)
+            }
+            _ => Ok(VOID_CLASS),
+        }
+    }
+
+    /// The class of a complete record by those of its members.
+    pub(crate) fn class_of_record(&mut self, number: u32) -> Result<u32, NoMemory> {
+        let members = members_of(&self.table, number);
+        self.classes
+            .of_record(self.alloc, &self.table, number, members)
+    }
+}
+
+fn members_of(table: &TypeTable, number: u32) -> &[MemberType] {
+    match table.record(number) {
+        Some(record) => match &record.members {
+            Some(members) => members.as_slice(),
+            None => &[],
+        },
+        None => &[],
     }
 }
 
