@@ -33,7 +33,7 @@ impl<D: Disk> Drop for Journal<D> {
 }
 
 impl<D: Disk> Journal<D> {
-    ghost use Rattle.std.specs.Prelude.{◌≡◌, ◌⊎◌, ◌≤◌, ◌<◌, ◌^◌, ◌+◌, ◌++◌, [], ◌∷◌, List, ℕ, true, false, length, OnOk, OnErr, IfOk, IsErr, IsErrOf};
+    ghost use Rattle.std.specs.Prelude.{◌≡◌, ◌⊎◌, ◌≤◌, ◌<◌, ◌^◌, ◌+◌, ◌-◌, ◌++◌, [], ◌∷◌, List, ℕ, true, false, length, OnOk, OnErr, IfOk, IsErr, IsErrOf};
     ghost use Rattle.sv_outside.specs.Outside.{Rose};
     ghost use Rattle.sv_outside.specs.Disk.{IsStill, LeavesOnly};
     ghost use Rattle.journal.specs.Format.{Entry, IsBatch};
@@ -79,7 +79,7 @@ impl<D: Disk> Journal<D> {
     /// The length that the image would have with a record more, with a body of so many bytes.
     pub fn size_with(&self, length: u64) -> u64
         requires journal { IsJournal D.told D.seen self.now }
-        requires length { length < 2 ^ 63 }
+        requires length { length < 2 ^ 64 - 2 ^ 32 }
         ensures { result ≡ journal_gate self.now + length + 14 }
     {
         self.gate + length + 14

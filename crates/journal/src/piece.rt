@@ -9,7 +9,7 @@ use sv_base::NoMemory;
 #[derive(Drop)]
 pub struct Piece {
     pub(crate) bytes: Vec<u8>,
-    ghost some: { 0 < vec_len bytes },
+    ghost whole: { 13 ≤ vec_len bytes },
 }
 
 // The round, the task and the length of the body.
@@ -56,7 +56,8 @@ impl Piece {
 
     /// How many bytes are written, the closed gate behind them among them.
     pub fn len(&self) -> usize
-        ensures { result ≡ length (piece_bytes self.now) }
+        ensures length { result ≡ length (piece_bytes self.now) }
+        ensures whole { 13 ≤ result }
     {
         self.bytes.len()
     }

@@ -1,6 +1,7 @@
 //! Work in rounds of tasks: who may compute a task, the shelf of what was computed, and tables that keep it in a journal.
 #![tactic(auto)]
 
+mod batch;
 mod mark;
 mod opening;
 mod publish;
@@ -12,6 +13,7 @@ mod tables;
 mod turn;
 mod work;
 
+pub use batch::Publication;
 pub use opening::Opening;
 pub use publish::Publish;
 pub use shelf::Shelf;

@@ -1,7 +1,11 @@
-use crate::mark::{MARK, is_mark};
+ghost use Rattle.std.specs.Prelude.{◌≡◌, true, false};
+ghost use Rattle.lease_table.specs.Machine.{IsLeasedBy};
+
+use crate::batch::{Batch, answered};
+use crate::mark::MARK;
 use crate::reopening::read_back;
 use crate::rounds::Rounds;
-use crate::{Opening, Publish, Stop, Turn, Work};
+use crate::{Opening, Publication, Publish, Stop, Turn, Work};
 use journal::{Digests, Journal, LIMIT, NoRoom, OpenFault, Piece};
 use lease_table::{Abandoned, Claimed, Standing};
 use std::alloc::Global;
@@ -26,16 +30,27 @@ impl<D: Disk, W: Work> Drop for Tables<D, W> {
     }
 }
 
+// Whether the task stands leased by this ticket.
+fn is_leased_by(standing: Option<Standing>, ticket: u64) -> bool
+    ensures leased { result ≡ true → IsLeasedBy ticket standing }
+    ensures other { result ≡ false → IsLeasedBy ticket standing → ⊥ }
+{
+    match standing {
+        Some(Standing::Leased { ticket: by, .. }) => by == ticket,
+        _ => false,
+    }
+}
+
 impl<D: Disk, W: Work> Tables<D, W> {
-    ghost use Rattle.std.specs.Prelude.{◌≡◌, ◌≢◌, ◌≤◌, ◌<◌, ◌^◌, ◌+◌, ◌++◌, ◌∷◌, [], ℕ, true, false, length, Some, IfOk, IfErr, OnOk, OnErr, slice_get};
+    ghost use Rattle.std.specs.Prelude.{◌≡◌, ◌≢◌, ◌≤◌, ◌<◌, ◌^◌, ◌+◌, ◌*◌, ◌++◌, ◌∷◌, [], ℕ, true, false, length, All, Some, IfOk, IfErr, OnOk, OnErr, slice_get};
     ghost use Rattle.std.specs.Option.{option_copied};
     ghost use Rattle.lease_table.specs.Machine.{IsLeasedBy, Claims, Abandons, Expires};
     ghost use Rattle.lease_table.specs.Standings.{AllDone, SomeNotDone};
     ghost use Rattle.journal.specs.Journals.{journal_disk, journal_gate};
-    ghost use Rattle.journal.specs.Openings.{handed_back};
+    ghost use Rattle.journal.specs.Pieces.{piece_bytes};
     ghost use Rattle.tables.specs.Rounds.{Follows, claims_of, abandons_of, expires_of};
     ghost use Rattle.tables.specs.Shelves.{artifact_at};
-    ghost use Rattle.tables.specs.Sound.{IsSound, machine_of, shelf_of, events_of, journal_of, is_repeated, record_size, StopsAt, Publishes, FollowsRound};
+    ghost use Rattle.tables.specs.Sound.{IsSound, machine_of, shelf_of, events_of, journal_of, is_repeated, record_body, record_size, StopsAt, Publishes, FollowsRound};
     ghost use Rattle.tables.specs.Works.{IsNoMark};
 
     /// Opens a database, and takes what was published before. A refusal hands the disk back.
@@ -163,6 +178,39 @@ impl<D: Disk, W: Work> Tables<D, W> {
         }
     }
 
+    // The body of the record of an artifact.
+    fn body<'a>(&self, round: u32, task: u32, artifact: &'a [u8]) -> &'a [u8]
+        ensures { result.now ≡ record_body (shelf_of self.now) round task artifact.now }
+    {
+        if self.is_repeated(round, task, artifact) {
+            MARK.as_slice()
+        } else {
+            artifact
+        }
+    }
+
+    // Writes records, for which there may be no room.
+    fn write_piece(&mut self, piece: &Piece) -> Result<(), Stop>
+        requires { IsSound D.told D.seen self.old }
+        ensures sound { IsSound D.told D.seen self.new }
+        ensures gate { OnOk result (journal_gate (journal_of self.new) ≡ journal_gate (journal_of self.old) + length (piece_bytes piece.now)) }
+        ensures whole { 13 ≤ length (piece_bytes piece.now) }
+        ensures same { (self.new.opening ≡ self.old.opening) × (self.new.rounds ≡ self.old.rounds) }
+        ensures gate_stays { OnErr result (journal_gate (journal_of self.new) ≡ journal_gate (journal_of self.old)) }
+        ensures stops { IfErr result (StopsAt (journal_gate (journal_of self.old) + 1 + length (piece_bytes piece.now))) }
+    {
+        let _length = piece.len();
+        match self.journal.reserve_for(piece) {
+            Ok(()) => (),
+            Err(NoRoom::Full { size }) => return Err(Stop::Full { size }),
+            Err(NoRoom::NoMemory) => return Err(Stop::NoMemory),
+        }
+        match self.journal.append(piece) {
+            Ok(()) => Ok(()),
+            Err(_) => Err(Stop::Disk),
+        }
+    }
+
     // Writes the record of an artifact.
     fn write(&mut self, alloc: Global, round: u32, task: u32, artifact: &[u8]) -> Result<(), Stop>
         requires sound { IsSound D.told D.seen self.old }
@@ -172,25 +220,13 @@ impl<D: Disk, W: Work> Tables<D, W> {
         ensures stops { IfErr result (StopsAt (record_size self.old round task artifact.now)) }
         ensures same { (self.new.opening ≡ self.old.opening) × (self.new.rounds ≡ self.old.rounds) }
     {
-        let body = if self.is_repeated(round, task, artifact) {
-            MARK.as_slice()
-        } else {
-            artifact
-        };
+        let body = self.body(round, task, artifact);
         let size = self.journal.size_with(body.len() as u64);
         if size > LIMIT {
             return Err(Stop::Full { size });
         }
         let piece = Piece::new(alloc, round, task, body)?;
-        match self.journal.reserve(body.len() as u32) {
-            Ok(()) => (),
-            Err(NoRoom::Full { size }) => return Err(Stop::Full { size }),
-            Err(NoRoom::NoMemory) => return Err(Stop::NoMemory),
-        }
-        match self.journal.append(&piece) {
-            Ok(()) => Ok(()),
-            Err(_) => Err(Stop::Disk),
-        }
+        self.write_piece(&piece)
     }
 
     /// Stores the artifact of a task that this ticket leases. It is on the disk once the answer is `Stored`.
@@ -212,14 +248,11 @@ impl<D: Disk, W: Work> Tables<D, W> {
     {
         let _ = work;
         let standing = self.rounds.found(round, task);
-        match standing {
-            Some(Standing::Leased { ticket: by, .. }) if by == ticket => (),
-            _ => {
-                return Publish::Lost {
-                    round: self.rounds.round(),
-                    standing,
-                };
-            }
+        if !is_leased_by(standing, ticket) {
+            return Publish::Lost {
+                round: self.rounds.round(),
+                standing,
+            };
         }
         match self.write(alloc, round, task, &artifact) {
             Ok(()) => {
@@ -230,6 +263,108 @@ impl<D: Disk, W: Work> Tables<D, W> {
             Err(Stop::Full { size }) => Publish::Full { size },
             Err(Stop::NoMemory) => Publish::NoMemory,
         }
+    }
+
+    // Answers a publication, or adds its record to the batch.
+    fn decide(
+        &self,
+        alloc: Global,
+        round: u32,
+        batch: &mut Batch,
+        publication: Publication,
+    ) -> Result<(), NoMemory>
+        requires { IsSound D.told D.seen self.now }
+    {
+        let task = publication.task;
+        let ticket = publication.ticket;
+        let lost = match self.rounds.found(round, task) {
+            Some(Standing::Leased { ticket: by, .. }) if by == ticket => batch
+                .ticket_of(task)
+                .map(|ticket| Some(Standing::Done { ticket })),
+            standing => Some(standing),
+        };
+        if let Some(standing) = lost {
+            let round = self.rounds.round();
+            batch.refuse(Publish::Lost { round, standing })?;
+            return Ok(());
+        }
+        let body = self.body(round, task, &publication.artifact);
+        let size = self.journal.size_with(batch.len() + body.len() as u64);
+        if size > LIMIT {
+            batch.refuse(Publish::Full { size })?;
+            return Ok(());
+        }
+        batch.write(alloc, round, task, body)?;
+        batch.take(publication)?;
+        Ok(())
+    }
+
+    // Puts an artifact whose record was written.
+    fn put(&mut self, round: u32, publication: Publication)
+        requires sound { IsSound D.told D.seen self.old }
+        requires written { 13 * ((machine_of self.old).round + 1) ≤ journal_gate (journal_of self.old) }
+        ensures sound { IsSound D.told D.seen self.new }
+        ensures opening { self.new.opening ≡ self.old.opening }
+        ensures journal { self.new.journal ≡ self.old.journal }
+        ensures round { (machine_of self.new).round ≡ (machine_of self.old).round }
+    {
+        let Publication {
+            task,
+            ticket,
+            artifact,
+        } = publication;
+        if is_leased_by(self.rounds.found(round, task), ticket) {
+            self.rounds.publish(round, task, ticket, artifact);
+        }
+    }
+
+    fn put_all(&mut self, round: u32, taken: Vec<Publication>)
+        requires sound { IsSound D.told D.seen self.old }
+        requires written { 13 * ((machine_of self.old).round + 1) ≤ journal_gate (journal_of self.old) }
+        ensures sound { IsSound D.told D.seen self.new }
+        ensures opening { self.new.opening ≡ self.old.opening }
+        ensures journal { self.new.journal ≡ self.old.journal }
+        ensures round { (machine_of self.new).round ≡ (machine_of self.old).round }
+    {
+        for publication in taken {
+            self.put(round, publication);
+        }
+    }
+
+    /// Stores artifacts of tasks of one round, each as `publish` does, in order, but all records of them are written
+    /// together: a crash leaves all of them or none. After `NoMemory` nothing was stored.
+    pub fn publish_all(
+        &mut self,
+        alloc: Global,
+        work: &W,
+        round: u32,
+        publications: Vec<Publication>,
+    ) -> Result<Vec<Publish>, NoMemory>
+        requires sound { IsSound D.told D.seen self.old }
+        requires work { self.old.opening.work.value ≡ work.now }
+        requires artifacts { All (λ p. IsNoMark p.artifact.items) publications.items }
+        ensures sound { IsSound D.told D.seen self.new }
+        ensures opening { self.new.opening ≡ self.old.opening }
+        ensures round { (machine_of self.new).round ≡ (machine_of self.old).round }
+        ensures gate { journal_gate (journal_of self.old) ≤ journal_gate (journal_of self.new) }
+    {
+        let _ = work;
+        let mut batch = Batch::new(alloc);
+        for publication in publications {
+            self.decide(alloc, round, &mut batch, publication)?;
+        }
+        let (piece, taken, answers) = batch.into_parts();
+        let Some(piece) = piece else {
+            return Ok(answers);
+        };
+        match self.write_piece(&piece) {
+            Ok(()) => (),
+            Err(Stop::Disk) => return Ok(answered(answers, Publish::Disk)),
+            Err(Stop::Full { size }) => return Ok(answered(answers, Publish::Full { size })),
+            Err(Stop::NoMemory) => return Err(NoMemory),
+        }
+        self.put_all(round, taken);
+        Ok(answers)
     }
 
     /// Gives a lease back by its ticket.
@@ -272,6 +407,14 @@ impl<D: Disk, W: Work> Tables<D, W> {
     {
         let next = work.plan(alloc, self.rounds.round() + 1, self.rounds.shelf())?;
         self.rounds.advance(alloc, next)
+    }
+
+    /// The length of the image.
+    pub fn size(&self) -> u64
+        requires { IsSound D.told D.seen self.now }
+        ensures { result ≡ journal_gate (journal_of self.now) + 1 }
+    {
+        self.journal.size_with(0) - 13
     }
 
     /// The disk, once the tables are done with.
