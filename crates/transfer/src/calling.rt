@@ -1,9 +1,10 @@
+use crate::known::Known;
 use crate::leaves::unknown_in;
 use crate::lookups::Lookups;
 use crate::parts::{FUNCTION, callee_part, set_of};
 use crate::results::{ResultBound, Side};
 use c_values::Cmp;
-use core_ir::{Callee, CalleePart, Facts, Operand};
+use core_ir::{Callee, CalleePart, Operand};
 use intervals::Interval;
 use std::alloc::Global;
 use sv_base::NoMemory;
@@ -17,7 +18,7 @@ pub(crate) struct CallSite<'a> {
 }
 
 /// A function of a set, where it has the called type.
-pub(crate) fn called(facts: &Facts, target: u32, kind: u32) -> Option<&CalleePart> {
+pub(crate) fn called<'a>(facts: Known<'a>, target: u32, kind: u32) -> Option<&'a CalleePart> {
     if target < FUNCTION {
         return None;
     }
@@ -186,7 +187,7 @@ fn call_set(
     call: CallSite<'_>,
     set: &[u32],
     kind: u32,
-    facts: &Facts,
+    facts: Known<'_>,
     lookups: &mut Lookups,
 ) -> Result<(), NoMemory> {
     let mark = run.mark()?;
@@ -210,7 +211,7 @@ pub(crate) fn call(
     run: &mut Running,
     call: CallSite<'_>,
     callee: Callee,
-    facts: &Facts,
+    facts: Known<'_>,
     lookups: &mut Lookups,
 ) -> Result<(), NoMemory> {
     match callee {

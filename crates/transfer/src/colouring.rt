@@ -1,5 +1,5 @@
+use crate::known::Known;
 use crate::lookups::Lookups;
-use core_ir::Facts;
 use intervals::Interval;
 use std::alloc::Global;
 use sv_base::{Colour, NoMemory};
@@ -48,7 +48,7 @@ pub fn colour_at(
     state: &State,
     address: u32,
     width: u64,
-    facts: &Facts,
+    facts: Known<'_>,
     lookups: &mut Lookups,
 ) -> Result<Colour, NoMemory> {
     match lookups.lengths(facts, address)? {

@@ -4,10 +4,11 @@ ghost use Rattle.intervals.specs.Intervals.{IsNear};
 
 use crate::calling::called;
 use crate::gathered::Gathered;
+use crate::known::Known;
 use crate::leaves::{agrees, is_character};
 use crate::operands::numbers;
 use crate::parts::{callee_part, class_part, leaf_numbers, leaf_part, set_of};
-use core_ir::{Bounds, Callee, CalleePart, ClassPart, Facts, Leaf, LeafPart, Operand};
+use core_ir::{Bounds, Callee, CalleePart, ClassPart, Leaf, LeafPart, Operand};
 use intervals::{Interval, cast, join};
 use std::alloc::Global;
 use stored_bounds::{closed, entry_groups, unknown};
@@ -62,7 +63,7 @@ pub(crate) fn store(
     address: u32,
     value: Operand,
     leaf: Leaf,
-    facts: &Facts,
+    facts: Known<'_>,
     gathered: &mut Gathered,
 ) -> Result<(), NoMemory> {
     let Some(i) = numbers(state, value) else {
@@ -77,7 +78,11 @@ pub(crate) fn store(
 }
 
 /// The leaves of an object that begins are indeterminate.
-pub(crate) fn begin(facts: &Facts, object: u32, gathered: &mut Gathered) -> Result<(), NoMemory> {
+pub(crate) fn begin(
+    facts: Known<'_>,
+    object: u32,
+    gathered: &mut Gathered,
+) -> Result<(), NoMemory> {
     if let Some(part) = class_part(facts, object) {
         for leaf in &part.leaves {
             gathered.give(leaf, unknown(leaf.leaf))?;
@@ -96,7 +101,7 @@ fn with_more(found: Option<Interval>, more: Option<Interval>) -> Option<Interval
 
 // Joins the numbers of leaf classes to those at their places.
 fn add_sources(
-    facts: &Facts,
+    facts: Known<'_>,
     found: &mut Vec<Option<Interval>>,
     leaves: &[u32],
 ) -> Result<(), NoMemory> {
@@ -114,7 +119,7 @@ fn add_sources(
 // By leaf of the type, what the sub-objects of that type at an address hold.
 fn sources(
     alloc: Global,
-    facts: &Facts,
+    facts: Known<'_>,
     from: u32,
     layout: u32,
 ) -> Result<Vec<Option<Interval>>, NoMemory> {
@@ -148,7 +153,7 @@ fn copy_to(
 /// An object copy contributes, leaf by leaf, what the sub-objects of the type at the one address hold to those at the other.
 pub(crate) fn copy_object(
     alloc: Global,
-    facts: &Facts,
+    facts: Known<'_>,
     to: u32,
     from: u32,
     layout: u32,
@@ -263,7 +268,7 @@ pub(crate) fn call(
     state: &State,
     callee: Callee,
     args: &[Operand],
-    facts: &Facts,
+    facts: Known<'_>,
     gathered: &mut Gathered,
 ) -> Result<(), NoMemory> {
     match callee {

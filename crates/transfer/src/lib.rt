@@ -6,6 +6,7 @@ mod calling;
 mod colouring;
 mod gathered;
 mod giving;
+mod known;
 mod leaves;
 mod loading;
 mod lookups;
@@ -18,5 +19,6 @@ mod stepping;
 
 pub use colouring::{colour, colour_at};
 pub use gathered::Gathered;
+pub use known::Known;
 pub use lookups::Lookups;
 pub use stepping::{after, assume, given, step};

@@ -1,8 +1,9 @@
 ghost use Rattle.intervals.specs.Intervals.{IsNear};
 
+use crate::known::Known;
 use crate::leaves::{agrees, is_character};
 use crate::parts::{class_part, leaf_numbers, points_to_region, set_of};
-use core_ir::{Facts, Leaf, LeafPart};
+use core_ir::{Leaf, LeafPart};
 use intervals::{Interval, cast, join};
 use stored_bounds::leaf_range;
 
@@ -33,7 +34,7 @@ fn with_numbers(found: Loaded, i: Interval) -> Loaded {
 }
 
 // What a load may find in a leaf class, joined to what it may find elsewhere. A load of a character finds a byte of any leaf.
-fn with_leaf(facts: &Facts, found: Loaded, leaf: Leaf, part: &LeafPart) -> Loaded {
+fn with_leaf(facts: Known<'_>, found: Loaded, leaf: Leaf, part: &LeafPart) -> Loaded {
     if !agrees(leaf, part.leaf) {
         if is_character(leaf) {
             return Loaded::Anything;
@@ -46,7 +47,7 @@ fn with_leaf(facts: &Facts, found: Loaded, leaf: Leaf, part: &LeafPart) -> Loade
     }
 }
 
-fn with_class(facts: &Facts, found: Loaded, leaf: Leaf, class: u32) -> Loaded {
+fn with_class(facts: Known<'_>, found: Loaded, leaf: Leaf, class: u32) -> Loaded {
     let mut found = found;
     if let Some(part) = class_part(facts, class) {
         for one in &part.leaves {
@@ -58,7 +59,7 @@ fn with_class(facts: &Facts, found: Loaded, leaf: Leaf, class: u32) -> Loaded {
 
 /// What a load of a kind finds at an address: the numbers of the leaf classes that it may meet. It finds any of its kind where
 /// nothing is known of the address, or where it reads a byte of something else.
-pub(crate) fn load(facts: &Facts, address: u32, leaf: Leaf) -> Option<Interval> {
+pub(crate) fn load(facts: Known<'_>, address: u32, leaf: Leaf) -> Option<Interval> {
     if !points_to_region(facts, address) {
         return Some(leaf_range(leaf));
     }
@@ -74,7 +75,7 @@ pub(crate) fn load(facts: &Facts, address: u32, leaf: Leaf) -> Option<Interval> 
 }
 
 /// The shortest and the longest of the regions to which a register may point.
-pub(crate) fn lengths(facts: &Facts, address: u32) -> Option<(u64, u64)> {
+pub(crate) fn lengths(facts: Known<'_>, address: u32) -> Option<(u64, u64)> {
     let mut found = None;
     for class in set_of(facts, address) {
         if let Some(part) = class_part(facts, *class) {

@@ -1,6 +1,7 @@
+use crate::known::Known;
 use crate::loading::{lengths, load};
 use crate::results::{ResultBound, result_bounds};
-use core_ir::{CalleePart, Facts, Leaf};
+use core_ir::{CalleePart, Leaf};
 use intervals::Interval;
 use std::alloc::Global;
 use std::collections::BTreeMap;
@@ -35,7 +36,7 @@ impl Lookups {
     /// What a load finds; none where there is nothing to find yet.
     pub(crate) fn load(
         &mut self,
-        facts: &Facts,
+        facts: Known<'_>,
         address: u32,
         leaf: Leaf,
     ) -> Result<Option<Interval>, NoMemory> {
@@ -51,7 +52,7 @@ impl Lookups {
     /// The shortest and the longest of the regions at an address; none where there is no region.
     pub(crate) fn lengths(
         &mut self,
-        facts: &Facts,
+        facts: Known<'_>,
         address: u32,
     ) -> Result<Option<(u64, u64)>, NoMemory> {
         if let Some(found) = self.lengths.get(&address) {

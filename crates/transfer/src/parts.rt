@@ -3,15 +3,16 @@
 ghost use Rattle.std.specs.Prelude.{IfSome};
 ghost use Rattle.intervals.specs.Intervals.{IsNear};
 
+use crate::known::Known;
 use crate::near::near_interval;
-use core_ir::{CalleePart, ClassPart, Facts, LeafPart};
+use core_ir::{CalleePart, ClassPart, LeafPart};
 use intervals::Interval;
 
 /// The least number of a function in a set.
 pub(crate) const FUNCTION: u32 = 2147483648;
 
 /// The region classes and functions to which a register may point.
-pub(crate) fn set_of(facts: &Facts, register: u32) -> &[u32] {
+pub(crate) fn set_of<'a>(facts: Known<'a>, register: u32) -> &'a [u32] {
     match facts.sets.get(register as usize) {
         Some(set) => return set,
         None => return &[],
@@ -19,7 +20,7 @@ pub(crate) fn set_of(facts: &Facts, register: u32) -> &[u32] {
 }
 
 /// Whether a register may point into a region.
-pub(crate) fn points_to_region(facts: &Facts, register: u32) -> bool {
+pub(crate) fn points_to_region(facts: Known<'_>, register: u32) -> bool {
     match set_of(facts, register) {
         [first, ..] => return *first < FUNCTION,
         [] => return false,
@@ -27,7 +28,7 @@ pub(crate) fn points_to_region(facts: &Facts, register: u32) -> bool {
 }
 
 /// A region class; none for a function.
-pub(crate) fn class_part(facts: &Facts, class: u32) -> Option<&ClassPart> {
+pub(crate) fn class_part<'a>(facts: Known<'a>, class: u32) -> Option<&'a ClassPart> {
     match facts
         .classes
         .binary_search_by_key(&class, |part| part.class)
@@ -46,7 +47,7 @@ pub(crate) fn leaf_part(part: &ClassPart, class: u32) -> Option<&LeafPart> {
 }
 
 /// The numbers of a leaf class; none where it holds none yet.
-pub(crate) fn leaf_numbers(facts: &Facts, class: u32) -> Option<Interval>
+pub(crate) fn leaf_numbers(facts: Known<'_>, class: u32) -> Option<Interval>
     ensures near { IfSome result IsNear }
 {
     match facts.leaves.binary_search_by_key(&class, |part| part.class) {
@@ -55,7 +56,7 @@ pub(crate) fn leaf_numbers(facts: &Facts, class: u32) -> Option<Interval>
     }
 }
 
-fn numbers_at(facts: &Facts, at: usize) -> Option<Interval>
+fn numbers_at(facts: Known<'_>, at: usize) -> Option<Interval>
     ensures near { IfSome result IsNear }
 {
     match facts.leaves.get(at) {
@@ -64,7 +65,7 @@ fn numbers_at(facts: &Facts, at: usize) -> Option<Interval>
     }
 }
 
-pub(crate) fn callee_part(facts: &Facts, callee: u32) -> Option<&CalleePart> {
+pub(crate) fn callee_part<'a>(facts: Known<'a>, callee: u32) -> Option<&'a CalleePart> {
     match facts
         .callees
         .binary_search_by_key(&callee, |part| part.callee)

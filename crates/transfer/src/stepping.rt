@@ -1,10 +1,11 @@
 use crate::calling::{CallSite, call};
 use crate::gathered::Gathered;
 use crate::giving;
+use crate::known::Known;
 use crate::lookups::Lookups;
 use crate::setting::{add_to_pointer, set};
 use c_values::Cmp;
-use core_ir::{Cond, Facts, Leaf, Operand, Step};
+use core_ir::{Cond, Leaf, Operand, Step};
 use intervals::Interval;
 use std::alloc::Global;
 use stored_bounds::leaf_range;
@@ -17,7 +18,7 @@ fn check(
     run: &mut Running,
     address: u32,
     width: u64,
-    facts: &Facts,
+    facts: Known<'_>,
     lookups: &mut Lookups,
 ) -> Result<(), NoMemory> {
     let Some((_, longest)) = lookups.lengths(facts, address)? else {
@@ -34,7 +35,7 @@ fn load(
     to: u32,
     address: u32,
     leaf: Leaf,
-    facts: &Facts,
+    facts: Known<'_>,
     lookups: &mut Lookups,
 ) -> Result<(), NoMemory> {
     let i = lookups.load(facts, address, leaf)?;
@@ -46,7 +47,7 @@ pub fn after(
     alloc: Global,
     run: &mut Running,
     s: &Step,
-    facts: &Facts,
+    facts: Known<'_>,
     lookups: &mut Lookups,
 ) -> Result<(), NoMemory> {
     if run.state().is_bottom() {
@@ -92,7 +93,7 @@ pub fn given(
     alloc: Global,
     state: &State,
     s: &Step,
-    facts: &Facts,
+    facts: Known<'_>,
     gathered: &mut Gathered,
 ) -> Result<(), NoMemory> {
     if state.is_bottom() {
@@ -128,7 +129,7 @@ pub fn step(
     alloc: Global,
     run: &mut Running,
     s: &Step,
-    facts: &Facts,
+    facts: Known<'_>,
     lookups: &mut Lookups,
     gathered: &mut Gathered,
 ) -> Result<(), NoMemory> {
