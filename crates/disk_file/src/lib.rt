@@ -9,8 +9,6 @@ mod host_file;
 mod host_sink;
 mod host_sources;
 mod medium;
-#[cfg(test)]
-mod tests;
 
 pub use host_clock::HostClock;
 pub use host_disk::HostDisk;

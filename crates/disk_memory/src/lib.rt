@@ -8,8 +8,6 @@ mod medium;
 mod memory_disk;
 mod named;
 mod sure_disk;
-#[cfg(test)]
-mod tests;
 mod torn;
 
 pub use disks::{MemoryDisks, SureDisks};

@@ -6,8 +6,6 @@ mod laws;
 mod lease;
 mod standing;
 mod tasks;
-#[cfg(test)]
-mod tests;
 mod times;
 
 pub use event::Event;

@@ -1,4 +1,4 @@
-use crate::{Abandoned, Claimed, Lease, Published, Standing};
+use lease_table::{Abandoned, Claimed, Lease, Published, Standing};
 use std::test::Fail;
 
 // One task and a term of 100: a lease that runs out is given to the next worker, and the first can't publish any more.

@@ -1,4 +1,4 @@
-use crate::{HostClock, HostDisk, HostDisks, HostSources};
+use disk_file::{HostClock, HostDisk, HostDisks, HostSources};
 use std::fs;
 use std::test::Fail;
 use sv_base::DiskFailed;
