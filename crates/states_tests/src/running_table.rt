@@ -1,0 +1,551 @@
+// Printed by another implementation, which copies whole states: calls of a running state, and after `shows` all that is known.
+
+pub(crate) const TABLE: &str = "\
+layout 0|1|2 ; -128:127 -128:127 0:255\n\
+sum a 1 1 1\n\
+keep_all 1\n\
+is_at 1 yes\n\
+sum a 0 1 1\n\
+sum a 2 2 1\n\
+is_at 1 no\n\
+put 1\n\
+shows a -128:127 -127:127 0:255\n\
+mark\n\
+assume a ge r1 r1\n\
+mark\n\
+assume a ne r1 -1\n\
+mark\n\
+sum a 2 2 1\n\
+sum a 1 0 1\n\
+interval a 2 16:16\n\
+join_mark 2\n\
+shows a -128:127 -127:127 0:255\n\
+new_widening 2\n\
+mark\n\
+sum a 2 2 1\n\
+sum a 1 0 1\n\
+interval a 2 16:16\n\
+join_mark 2\n\
+is_within yes\n\
+release\n\
+shows a -128:127 -127:127 0:255\n\
+sum a 2 2 1\n\
+sum a 1 0 1\n\
+interval a 2 16:16\n\
+bottom a\n\
+release\n\
+shows a bottom\n\
+take_back 3\n\
+assume a eq r1 -1\n\
+sum a 0 0 1\n\
+shows a -127:127 -1:-1 0:255\n\
+join_patch 3\n\
+release\n\
+mark\n\
+sum a 0 0 2\n\
+sum a 1 1 1\n\
+sum a 1 2 1\n\
+shows a -125:127 1:127 0:255\n\
+join_mark 1\n\
+shows a -127:127 -1:127 0:255\n\
+new_widening 4\n\
+mark\n\
+sum a 0 0 2\n\
+sum a 1 1 1\n\
+sum a 1 2 1\n\
+shows a -125:127 1:127 0:255\n\
+join_mark 1\n\
+is_within yes\n\
+release\n\
+shows a -127:127 -1:127 0:255\n\
+sum a 0 0 2\n\
+sum a 1 1 1\n\
+sum a 1 2 1\n\
+shows a -125:127 1:127 0:255\n\
+bottom a\n\
+release\n\
+shows a bottom\n\
+take_back 5\n\
+assume a lt r1 r1\n\
+join_patch 5\n\
+release\n\
+shows a bottom\n\
+layout 0|1 ; -128:127 -2147483648:2147483647\n\
+mark\n\
+no_exit 1\n\
+mark\n\
+assume a lt r0 r0\n\
+take_back 2\n\
+assume a ge r0 r0\n\
+sum a 0 0 3\n\
+sum a 1 0 0\n\
+sum a 1 0 3\n\
+assume a lt r1 r0\n\
+shows a -121:127 -122:126\n\
+join_patch 2\n\
+release\n\
+shows a -121:127 -122:126\n\
+join_patch 1\n\
+release\n\
+keep_all 3\n\
+is_at 3 yes\n\
+interval a 0 0:5\n\
+sum a 1 0 1\n\
+is_at 3 no\n\
+put 3\n\
+shows a -121:127 -122:126\n\
+shows a -121:127 -122:126\n\
+mark\n\
+no_exit 4\n\
+mark\n\
+assume a le r0 r1\n\
+mark\n\
+sum a 1 1 1\n\
+sum a 0 0 1\n\
+sum a 1 0 1\n\
+sum a 0 1 1\n\
+interval a 1 4:4\n\
+keep_all 5\n\
+is_at 5 yes\n\
+interval a 1 2:2\n\
+sum a 0 0 1\n\
+is_at 5 no\n\
+put 5\n\
+shows a -118:127 4:4\n\
+sum a 0 1 3\n\
+shows a 7:7 4:4\n\
+join_mark 2\n\
+shows a -121:126 -121:126\n\
+new_widening 6\n\
+mark\n\
+sum a 1 1 1\n\
+sum a 0 0 1\n\
+sum a 1 0 1\n\
+sum a 0 1 1\n\
+interval a 1 4:4\n\
+keep_all 7\n\
+is_at 7 yes\n\
+interval a 1 2:2\n\
+sum a 0 0 1\n\
+is_at 7 no\n\
+put 7\n\
+shows a -118:127 4:4\n\
+sum a 0 1 3\n\
+shows a 7:7 4:4\n\
+join_mark 2\n\
+is_within yes\n\
+release\n\
+shows a -121:126 -121:126\n\
+sum a 1 1 1\n\
+sum a 0 0 1\n\
+sum a 1 0 1\n\
+sum a 0 1 1\n\
+interval a 1 4:4\n\
+keep_all 8\n\
+is_at 8 yes\n\
+interval a 1 2:2\n\
+sum a 0 0 1\n\
+is_at 8 no\n\
+put 8\n\
+shows a -118:127 4:4\n\
+sum a 0 1 3\n\
+shows a 7:7 4:4\n\
+release\n\
+shows a 7:7 4:4\n\
+leave 0 4\n\
+shows a bottom\n\
+take_back 9\n\
+assume a gt r0 r1\n\
+leave 0 4\n\
+join_patch 9\n\
+release\n\
+shows a bottom\n\
+join_patch 4\n\
+release\n\
+mark\n\
+sum a 0 0 -1\n\
+sum a 1 0 1\n\
+sum a 1 1 1\n\
+join_mark 0\n\
+shows a -122:127 -122:128\n\
+new_widening 10\n\
+mark\n\
+sum a 0 0 -1\n\
+sum a 1 0 1\n\
+sum a 1 1 1\n\
+join_mark 0\n\
+is_within no\n\
+widen_mark 10\n\
+release\n\
+shows a -128:127 -122:128\n\
+mark\n\
+sum a 0 0 -1\n\
+sum a 1 0 1\n\
+sum a 1 1 1\n\
+join_mark 0\n\
+is_within no\n\
+widen_mark 10\n\
+release\n\
+shows a -128:127 -2147483648:128\n\
+mark\n\
+sum a 0 0 -1\n\
+sum a 1 0 1\n\
+sum a 1 1 1\n\
+join_mark 0\n\
+is_within yes\n\
+release\n\
+shows a -128:127 -126:128\n\
+sum a 0 0 -1\n\
+sum a 1 0 1\n\
+sum a 1 1 1\n\
+bottom a\n\
+release\n\
+shows a bottom\n\
+shows a bottom\n\
+layout 0 1 ; -128:127 -1208925819614629174706176:1208925819614629174706176\n\
+mark\n\
+sum a 1 0 2\n\
+sum a 1 1 1\n\
+mark\n\
+no_exit 1\n\
+interval a 1 2:3\n\
+mark\n\
+sum a 1 1 1\n\
+sum a 1 1 2\n\
+assume a lt r0 r0\n\
+join_mark 2\n\
+shows a -128:127 2:3 0-1:125 1-0:131\n\
+new_widening 2\n\
+mark\n\
+sum a 1 1 1\n\
+sum a 1 1 2\n\
+assume a lt r0 r0\n\
+join_mark 2\n\
+is_within yes\n\
+release\n\
+shows a -128:127 2:3 0-1:125 1-0:131\n\
+sum a 1 1 1\n\
+sum a 1 1 2\n\
+assume a lt r0 r0\n\
+bottom a\n\
+release\n\
+shows a bottom\n\
+join_patch 1\n\
+release\n\
+join_mark 0\n\
+shows a -128:127 -1208925819614629174706176:1208925819614629174706176 0-1:1208925819614629174706303 1-0:1208925819614629174706304\n\
+new_widening 3\n\
+mark\n\
+sum a 1 0 2\n\
+sum a 1 1 1\n\
+mark\n\
+no_exit 4\n\
+interval a 1 2:3\n\
+mark\n\
+sum a 1 1 1\n\
+sum a 1 1 2\n\
+assume a lt r0 r0\n\
+join_mark 3\n\
+shows a -128:127 2:3 0-1:125 1-0:131\n\
+new_widening 5\n\
+mark\n\
+sum a 1 1 1\n\
+sum a 1 1 2\n\
+assume a lt r0 r0\n\
+join_mark 3\n\
+is_within yes\n\
+release\n\
+shows a -128:127 2:3 0-1:125 1-0:131\n\
+sum a 1 1 1\n\
+sum a 1 1 2\n\
+assume a lt r0 r0\n\
+bottom a\n\
+release\n\
+shows a bottom\n\
+join_patch 4\n\
+release\n\
+join_mark 0\n\
+is_within yes\n\
+release\n\
+shows a -128:127 -1208925819614629174706176:1208925819614629174706176 0-1:1208925819614629174706303 1-0:1208925819614629174706304\n\
+sum a 1 0 2\n\
+sum a 1 1 1\n\
+mark\n\
+no_exit 6\n\
+interval a 1 2:3\n\
+mark\n\
+sum a 1 1 1\n\
+sum a 1 1 2\n\
+assume a lt r0 r0\n\
+join_mark 2\n\
+shows a -128:127 2:3 0-1:125 1-0:131\n\
+new_widening 7\n\
+mark\n\
+sum a 1 1 1\n\
+sum a 1 1 2\n\
+assume a lt r0 r0\n\
+join_mark 2\n\
+is_within yes\n\
+release\n\
+shows a -128:127 2:3 0-1:125 1-0:131\n\
+sum a 1 1 1\n\
+sum a 1 1 2\n\
+assume a lt r0 r0\n\
+bottom a\n\
+release\n\
+shows a bottom\n\
+join_patch 6\n\
+release\n\
+release\n\
+shows a bottom\n\
+shows a bottom\n\
+layout 0 1 ; 0:255 0:255\n\
+mark\n\
+assume a gt r1 8\n\
+interval a 0 18:23\n\
+mark\n\
+assume a ge r1 r1\n\
+sum a 1 0 1\n\
+mark\n\
+assume a lt 22 r0\n\
+sum a 1 1 0\n\
+take_back 1\n\
+assume a ge 22 r0\n\
+sum a 0 1 1\n\
+sum a 1 0 -1\n\
+sum a 1 0 0\n\
+sum a 0 1 0\n\
+join_patch 1\n\
+release\n\
+take_back 2\n\
+assume a lt r1 r1\n\
+join_patch 2\n\
+release\n\
+take_back 3\n\
+assume a le r1 8\n\
+sum a 0 0 -1\n\
+join_patch 3\n\
+release\n\
+mark\n\
+sum a 0 0 2\n\
+sum a 1 1 2\n\
+sum a 1 0 3\n\
+shows a 2:252 5:255 0-1:-3 1-0:3\n\
+join_mark 0\n\
+shows a 0:254 0:255 0-1:254 1-0:8\n\
+new_widening 4\n\
+mark\n\
+sum a 0 0 2\n\
+sum a 1 1 2\n\
+sum a 1 0 3\n\
+shows a 2:252 5:255 0-1:-3 1-0:3\n\
+join_mark 0\n\
+is_within yes\n\
+release\n\
+shows a 0:254 0:255 0-1:254 1-0:8\n\
+sum a 0 0 2\n\
+sum a 1 1 2\n\
+sum a 1 0 3\n\
+shows a 2:252 5:255 0-1:-3 1-0:3\n\
+bottom a\n\
+release\n\
+shows a bottom\n\
+shows a bottom\n\
+layout 0|1|2|3 ; -2147483648:2147483647 0:255 -2147483648:2147483647 0:255\n\
+sum a 0 3 3\n\
+shows a 3:258 0:255 -2147483648:2147483647 0:255\n\
+sum a 1 0 -1\n\
+mark\n\
+sum a 1 2 -1\n\
+sum a 3 0 1\n\
+mark\n\
+sum a 0 0 1\n\
+sum a 3 3 -1\n\
+mark\n\
+assume a gt 7 6\n\
+sum a 1 2 3\n\
+take_back 1\n\
+assume a le 7 6\n\
+join_patch 1\n\
+release\n\
+sum a 1 1 3\n\
+join_mark 1\n\
+shows a 3:259 0:255 -2147483648:2147483647 3:255\n\
+new_widening 2\n\
+mark\n\
+sum a 0 0 1\n\
+sum a 3 3 -1\n\
+mark\n\
+assume a gt 7 6\n\
+sum a 1 2 3\n\
+take_back 3\n\
+assume a le 7 6\n\
+join_patch 3\n\
+release\n\
+sum a 1 1 3\n\
+join_mark 1\n\
+is_within no\n\
+widen_mark 2\n\
+release\n\
+shows a 3:2147483647 0:255 -2147483648:2147483647 0:255\n\
+mark\n\
+sum a 0 0 1\n\
+sum a 3 3 -1\n\
+mark\n\
+assume a gt 7 6\n\
+sum a 1 2 3\n\
+take_back 4\n\
+assume a le 7 6\n\
+join_patch 4\n\
+release\n\
+sum a 1 1 3\n\
+join_mark 1\n\
+is_within yes\n\
+release\n\
+shows a 3:2147483647 0:255 -2147483648:2147483647 0:255\n\
+sum a 0 0 1\n\
+sum a 3 3 -1\n\
+mark\n\
+assume a gt 7 6\n\
+sum a 1 2 3\n\
+take_back 5\n\
+assume a le 7 6\n\
+join_patch 5\n\
+release\n\
+sum a 1 1 3\n\
+bottom a\n\
+release\n\
+shows a bottom\n\
+join_mark 0\n\
+shows a 3:258 2:255 -2147483648:2147483647 0:255\n\
+new_widening 6\n\
+mark\n\
+sum a 1 2 -1\n\
+sum a 3 0 1\n\
+mark\n\
+sum a 0 0 1\n\
+sum a 3 3 -1\n\
+mark\n\
+assume a gt 7 6\n\
+sum a 1 2 3\n\
+take_back 7\n\
+assume a le 7 6\n\
+join_patch 7\n\
+release\n\
+sum a 1 1 3\n\
+join_mark 2\n\
+shows a 3:259 0:255 -2147483648:2147483647 3:255\n\
+new_widening 8\n\
+mark\n\
+sum a 0 0 1\n\
+sum a 3 3 -1\n\
+mark\n\
+assume a gt 7 6\n\
+sum a 1 2 3\n\
+take_back 9\n\
+assume a le 7 6\n\
+join_patch 9\n\
+release\n\
+sum a 1 1 3\n\
+join_mark 2\n\
+is_within no\n\
+widen_mark 8\n\
+release\n\
+shows a 3:2147483647 0:255 -2147483648:2147483647 0:255\n\
+mark\n\
+sum a 0 0 1\n\
+sum a 3 3 -1\n\
+mark\n\
+assume a gt 7 6\n\
+sum a 1 2 3\n\
+take_back 10\n\
+assume a le 7 6\n\
+join_patch 10\n\
+release\n\
+sum a 1 1 3\n\
+join_mark 2\n\
+is_within yes\n\
+release\n\
+shows a 3:2147483647 0:255 -2147483648:2147483647 0:255\n\
+sum a 0 0 1\n\
+sum a 3 3 -1\n\
+mark\n\
+assume a gt 7 6\n\
+sum a 1 2 3\n\
+take_back 11\n\
+assume a le 7 6\n\
+join_patch 11\n\
+release\n\
+sum a 1 1 3\n\
+bottom a\n\
+release\n\
+shows a bottom\n\
+join_mark 0\n\
+is_within yes\n\
+release\n\
+shows a 3:258 2:255 -2147483648:2147483647 0:255\n\
+sum a 1 2 -1\n\
+sum a 3 0 1\n\
+mark\n\
+sum a 0 0 1\n\
+sum a 3 3 -1\n\
+mark\n\
+assume a gt 7 6\n\
+sum a 1 2 3\n\
+take_back 12\n\
+assume a le 7 6\n\
+join_patch 12\n\
+release\n\
+sum a 1 1 3\n\
+join_mark 1\n\
+shows a 3:259 0:255 -2147483648:2147483647 3:255\n\
+new_widening 13\n\
+mark\n\
+sum a 0 0 1\n\
+sum a 3 3 -1\n\
+mark\n\
+assume a gt 7 6\n\
+sum a 1 2 3\n\
+take_back 14\n\
+assume a le 7 6\n\
+join_patch 14\n\
+release\n\
+sum a 1 1 3\n\
+join_mark 1\n\
+is_within no\n\
+widen_mark 13\n\
+release\n\
+shows a 3:2147483647 0:255 -2147483648:2147483647 0:255\n\
+mark\n\
+sum a 0 0 1\n\
+sum a 3 3 -1\n\
+mark\n\
+assume a gt 7 6\n\
+sum a 1 2 3\n\
+take_back 15\n\
+assume a le 7 6\n\
+join_patch 15\n\
+release\n\
+sum a 1 1 3\n\
+join_mark 1\n\
+is_within yes\n\
+release\n\
+shows a 3:2147483647 0:255 -2147483648:2147483647 0:255\n\
+sum a 0 0 1\n\
+sum a 3 3 -1\n\
+mark\n\
+assume a gt 7 6\n\
+sum a 1 2 3\n\
+take_back 16\n\
+assume a le 7 6\n\
+join_patch 16\n\
+release\n\
+sum a 1 1 3\n\
+bottom a\n\
+release\n\
+shows a bottom\n\
+release\n\
+shows a bottom\n\
+shows a bottom\n\
+shows a bottom\n\
+";
