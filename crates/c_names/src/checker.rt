@@ -100,7 +100,7 @@ impl Checker {
         self.names.cut(0);
         self.tags.cut(0);
         self.innermost = Start { names: 0, tags: 0 };
-        self.linkage.clear();
+        self.linkage.take(self.alloc);
     }
 
     /// The next of the tree's list of names.
@@ -116,6 +116,11 @@ impl Checker {
             Some(number) => *number,
             None => 0,
         }
+    }
+
+    /// The number in the pool of a spelling that stands in it.
+    pub fn find_spelling(&self, text: &[u8]) -> Option<u32> {
+        self.pool.find(text)
     }
 
     /// The spelling of a name by its number in the pool.
@@ -339,6 +344,52 @@ impl Checker {
                 },
             ),
             None => Ok(()),
+        }
+    }
+}
+
+/// Definitions of names with linkage (6.9).
+impl Checker {
+    /// A declaration defines an object of this type by an initialiser. Answers the type that the name then has.
+    pub fn define_object(&mut self, declaration: u32, object: u32, of: TypeId, at: Spot) -> TypeId {
+        self.linkage.set_type(declaration, of);
+        let Some(number) = self.linkage.entity_of(declaration) else {
+            return of;
+        };
+        self.linkage.compose(&self.types.table, number, of);
+        let Some(mut entity) = self.linkage.entity(number) else {
+            return of;
+        };
+        entity.initialised.add(at);
+        if entity.object.is_none() {
+            entity.object = Some(object);
+        }
+        self.linkage.put(number, entity);
+        entity.of
+    }
+
+    /// A declaration defines an object without an initialiser.
+    pub fn define_tentatively(&mut self, declaration: u32, at: Spot) {
+        if let Some(number) = self.linkage.entity_of(declaration) {
+            if let Some(mut entity) = self.linkage.entity(number) {
+                if entity.tentative.is_none() {
+                    entity.tentative = Some(at);
+                }
+                self.linkage.put(number, entity);
+            }
+        }
+    }
+
+    /// A declaration defines a function, by its number in the program.
+    pub fn define_function(&mut self, declaration: u32, function: u32, at: Spot) {
+        if let Some(number) = self.linkage.entity_of(declaration) {
+            if let Some(mut entity) = self.linkage.entity(number) {
+                entity.bodies.add(at);
+                if entity.function.is_none() {
+                    entity.function = Some(function);
+                }
+                self.linkage.put(number, entity);
+            }
         }
     }
 }

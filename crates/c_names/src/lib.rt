@@ -13,7 +13,7 @@ mod walk;
 mod words;
 
 pub use checker::{Checker, KeptScope, Opened, Slot};
-pub use linkage::{Entity, FirstTwo, Linkage, LinkedDeclaration, LinkedWords};
+pub use linkage::{Entity, FileLinkage, FirstTwo, Linkage, LinkedDeclaration, LinkedWords};
 pub use meaning::{Meaning, Tag};
 pub use objects::char_value;
 pub use overrides::Overrides;

@@ -1,6 +1,7 @@
 use c_faults::{Spot, Stop, refuse};
 use c_typed::{TypeId, TypeTable};
 use std::alloc::{AllocError, Global};
+use std::mem::replace;
 use sv_base::faults;
 
 /// The first two of some places.
@@ -70,7 +71,16 @@ pub struct LinkedWords {
     pub is_inline: bool,
 }
 
-/// The names with linkage of one file.
+/// What a file declares with linkage.
+#[derive(Drop)]
+pub struct FileLinkage {
+    /// In token order.
+    pub declarations: Vec<LinkedDeclaration>,
+    /// In the order of their first declarations.
+    pub entities: Vec<Entity>,
+}
+
+/// The names with linkage of the file that is checked.
 #[derive(Drop)]
 pub struct Linkage {
     /// In token order.
@@ -92,16 +102,18 @@ impl Linkage {
         }
     }
 
-    /// Forgets all names, for the next file. The uses go on counting.
-    pub fn clear(&mut self) {
+    /// Takes the names of a file, so that none is left for the next one. The uses go on counting.
+    pub fn take(&mut self, alloc: Global) -> FileLinkage {
         for entity in &self.entities {
             let name = entity.name as usize;
             if name < self.by_name.len() {
                 self.by_name[name] = None;
             }
         }
-        self.entities.clear();
-        self.declarations.clear();
+        FileLinkage {
+            declarations: replace(&mut self.declarations, Vec::new(alloc)),
+            entities: replace(&mut self.entities, Vec::new(alloc)),
+        }
     }
 
     /// The number of the entity of a name.
@@ -140,6 +152,14 @@ impl Linkage {
         let at = number as usize;
         if at < self.entities.len() {
             self.entities[at] = entity;
+        }
+    }
+
+    /// Gives a declaration another type. Where there is none nothing happens.
+    pub fn set_type(&mut self, declaration: u32, of: TypeId) {
+        let at = declaration as usize;
+        if at < self.declarations.len() {
+            self.declarations[at].of = of;
         }
     }
 

@@ -25,6 +25,14 @@ impl Pool {
         Ok(next)
     }
 
+    /// The number of a spelling that stands here.
+    pub fn find(&self, text: &[u8]) -> Option<u32> {
+        match self.set.get_index_of(text) {
+            Some(place) => u32::try_from(place).ok(),
+            None => None,
+        }
+    }
+
     /// The spelling of a number, empty where there is none.
     pub fn text(&self, number: u32) -> &[u8] {
         match self.set.as_slice().get(number as usize) {
