@@ -299,28 +299,17 @@ impl Running {
         }
         if let Some(mark) = self.marks.get(mark).copied() {
             self.trail.start_list();
-            if !exits.bottom {
-                self.join_exits(exits);
-            }
             for at in mark.at..self.trail.len() {
                 self.add_exit(alloc, at, mark.at, exits)?;
             }
+            self.join_others(alloc, exits)?;
             exits.bottom = false;
         }
         self.state.set_bottom();
         Ok(())
     }
 
-    fn join_exits(&mut self, exits: &mut Patch) {
-        for (k, cluster) in exits.clusters.iter_mut() {
-            self.trail.meet(*k);
-            if let Some(more) = self.state.clusters.get(*k) {
-                cluster.join(more);
-            }
-        }
-    }
-
-    // A cluster that was changed since the mark, and that the exits do not have.
+    // A cluster that was changed since the mark. One that the exits before did not change is joined with what it was there.
     fn add_exit(
         &mut self,
         alloc: Global,
@@ -335,14 +324,28 @@ impl Running {
         let Some(cluster) = self.state.clusters.get(k) else {
             return Ok(());
         };
-        if self.trail.was_met(k) {
-            return Ok(());
+        if !exits.join_cluster(k, cluster) {
+            let mut value = cluster.copy_of(alloc)?;
+            if !exits.bottom {
+                value.join(&saved.value);
+            }
+            exits.add(k, value, exits.bottom)?;
         }
-        let mut value = cluster.copy_of(alloc)?;
-        if !exits.bottom {
-            value.join(&saved.value);
+        self.trail.meet(k);
+        Ok(())
+    }
+
+    // Clusters that every exit before changed, and this one does not: they are here what they were at the mark.
+    fn join_others(&mut self, alloc: Global, exits: &mut Patch) -> Result<(), NoMemory> {
+        for place in exits.take_changed(alloc) {
+            if let Some(k) = exits.cluster_at(place) {
+                if self.trail.was_met(k) {
+                    exits.keep_changed(place)?;
+                } else if let Some(cluster) = self.state.clusters.get(k) {
+                    let _ = exits.join_cluster(k, cluster);
+                }
+            }
         }
-        exits.clusters.push((k, value))?;
         Ok(())
     }
 

@@ -117,6 +117,9 @@ impl Trail {
 
     /// Closes a mark: what was saved since then stays where it was not saved since the mark around it.
     pub(crate) fn release(&mut self, mark: usize, outer: Option<usize>) {
+        if outer == Some(mark) {
+            return;
+        }
         let mut kept = mark;
         for at in mark..self.saved.len() {
             if self.settle(at, kept, outer) {
