@@ -8,7 +8,8 @@ use std::path::Path;
 use sv_base::DiskFailed;
 use sv_outside::Disks;
 
-/// The files of the system as disks. A file that is missing is made.
+/// The files of the system as disks. A file that is missing is made; one that another program has open as a disk is not
+/// opened.
 #[derive(Drop)]
 pub struct HostDisks<'a> {
     rt: &'a HostRuntime,
@@ -43,13 +44,19 @@ fn sync_folder(rt: &HostRuntime, name: &str) -> io::Result<()> {
     File::open(rt, folder)?.sync_all()
 }
 
+/// Opens a file that no other program has locked. Where it is empty it may just have been made.
 fn open_file(rt: &HostRuntime, name: &str) -> io::Result<File> {
     let file = File::options()
         .read(true)
         .write(true)
         .create(true)
         .open(rt, name)?;
-    sync_folder(rt, name)?;
+    if file.try_lock().is_err() {
+        return Err(io::ErrorKind::WouldBlock.into());
+    }
+    if file.metadata()?.len() == 0 {
+        sync_folder(rt, name)?;
+    }
     Ok(file)
 }
 

@@ -1,4 +1,4 @@
-ghost use Rattle.std.specs.Prelude.{◌≡◌, ◌≤◌, ◌+◌, length, IfOk, vec_len, IfSome};
+ghost use Rattle.std.specs.Prelude.{◌≡◌, ◌≤◌, ◌+◌, true, length, IfOk, IsErr, OnErr, vec_len, IfSome};
 
 use std::alloc::Global;
 use std::fs::File;
@@ -15,6 +15,8 @@ pub(crate) struct HostFile {
     buffer: Vec<u8>,
     at: u64,
     filled: usize,
+    // whether a sync has failed
+    lost: bool,
     ghost within: { filled ≤ vec_len buffer },
 }
 
@@ -50,6 +52,7 @@ impl HostFile {
             buffer,
             at: 0,
             filled: 0,
+            lost: false,
         }
     }
 
@@ -70,6 +73,7 @@ impl HostFile {
 
     fn fill(&mut self, at: u64, least: usize) -> io::Result<()>
         requires { least ≤ vec_len self.old.buffer }
+        ensures { self.new.lost ≡ self.old.lost }
     {
         self.filled = 0;
         self.filled = read_at_least(&self.file, at, least, &mut self.buffer)?;
@@ -77,7 +81,9 @@ impl HostFile {
         Ok(())
     }
 
-    pub(crate) fn read_at(&mut self, at: u64, into: &mut [u8]) -> io::Result<()> {
+    pub(crate) fn read_at(&mut self, at: u64, into: &mut [u8]) -> io::Result<()>
+        ensures { self.new.lost ≡ self.old.lost }
+    {
         if into.len() >= self.buffer.len() {
             return self.file.read_exact_at(into, at);
         }
@@ -91,13 +97,17 @@ impl HostFile {
         Ok(())
     }
 
-    pub(crate) fn write_at(&mut self, at: u64, piece: &[u8]) -> io::Result<()> {
+    pub(crate) fn write_at(&mut self, at: u64, piece: &[u8]) -> io::Result<()>
+        ensures { self.new.lost ≡ self.old.lost }
+    {
         self.filled = 0;
         self.file.write_all_at(piece, at)
     }
 
     /// Makes it no longer than that.
-    pub(crate) fn cut(&mut self, to: u64) -> io::Result<()> {
+    pub(crate) fn cut(&mut self, to: u64) -> io::Result<()>
+        ensures { self.new.lost ≡ self.old.lost }
+    {
         self.filled = 0;
         if to < self.length()? {
             self.file.set_len(to)?;
@@ -105,8 +115,21 @@ impl HostFile {
         Ok(())
     }
 
-    /// Waits until all that was written, and the length, is on the medium.
-    pub(crate) fn sync(&self) -> io::Result<()> {
-        self.file.sync_all()
+    /// Waits until all that was written, and the length, is on the medium. Where that failed once it fails for good: the
+    /// system may have given up what it could not write, and would not say so again.
+    pub(crate) fn sync(&mut self) -> io::Result<()>
+        ensures fails_on { self.old.lost ≡ true → IsErr result }
+        ensures lost { OnErr result (self.new.lost ≡ true) }
+    {
+        if self.lost {
+            return Err(io::ErrorKind::Other.into());
+        }
+        match self.file.sync_all() {
+            Ok(()) => Ok(()),
+            Err(error) => {
+                self.lost = true;
+                Err(error)
+            }
+        }
     }
 }

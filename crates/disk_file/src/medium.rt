@@ -92,7 +92,7 @@ impl Medium {
         }
     }
 
-    pub(crate) fn sync(&self) -> io::Result<()> {
+    pub(crate) fn sync(&mut self) -> io::Result<()> {
         match self {
             Medium::File(file) => file.sync(),
             Medium::Memory(_) => Ok(()),

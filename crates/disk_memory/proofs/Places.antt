@@ -1,12 +1,12 @@
 -- The place of the first value of a name, and what stands once it is taken out.
-use Rattle.std.proofs.Common.{◌≡◌, ◌≢◌, ℕ, zero, suc, ◌+◌, ◌<◌, true, false, Some, List, [], ◌∷◌, length, get_or, drop, refl, sym, ◌∙◌, ap, arith, inl, inr}
+use Rattle.std.proofs.Common.{◌≡◌, ◌≢◌, ℕ, zero, suc, ◌+◌, ◌<◌, true, false, Some, None, List, [], ◌∷◌, length, get_or, drop, refl, sym, ◌∙◌, ap, arith, inl, inr}
 use Rattle.std.specs.Prelude.{String, string_bytes, remove}
 use Rattle.std.specs.Str.{bytes_eq}
 use Rattle.std.specs.declared.alloc.Global.{Global}
 use Rattle.std.proofs.lemmas.Bool.{cases_Bool}
 use Rattle.std.proofs.lemmas.Slice.Eq.{bytes_eq-Decides}
 use Rattle.std.proofs.lemmas.List.{drop_more}
-use Rattle.disk_memory.specs.Named.{named, IsPlace}
+use Rattle.disk_memory.specs.Named.{named, without, IsPlace}
 
 -- the search of the rest gives the search of the whole
 pub record Searches {T : Type 0} (list : List (String Global × T)) (name : List ℕ) (at : ℕ) : Type 0 where
@@ -58,3 +58,18 @@ place_others (pair ∷ pairs) name other (suc at) p differs =
       | inl same ↦ rw same refl
       | inr not' ↦ rw not' (place_others pairs name other at p.1 differs)
     ]
+
+pub place_left : {T : Type 0} (list : List (String Global × T)) (name : List ℕ) (at : ℕ) → IsPlace list name at → remove list at ≡ without list name
+place_left [] name at p = absurd p
+place_left (pair ∷ pairs) name zero p = rw p refl
+place_left {T} (pair ∷ pairs) name (suc at) p = rw p.0 (ap (λ (l : List (String Global × T)). pair ∷ l) (place_left pairs name at p.1))
+
+some_is_none : {T : Type 0} (x : T) (P : Type 0) → Some x ≡ None → P
+some_is_none x P e = absurd (cc)
+
+pub none_left : {T : Type 0} (list : List (String Global × T)) (name : List ℕ) → named list name ≡ None → without list name ≡ list
+none_left [] name none = refl
+none_left {T} (pair ∷ pairs) name none = elim (cases_Bool (bytes_eq (string_bytes pair.0) name)) [
+  | inl same ↦ some_is_none pair.1 _ (rw same at none)
+  | inr other ↦ rw other (ap (λ (l : List (String Global × T)). pair ∷ l) (none_left pairs name (rw other at none)))
+]

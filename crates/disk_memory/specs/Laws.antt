@@ -1,7 +1,7 @@
 -- The laws of a disk that keeps its calls.
 use Rattle.std.specs.Prelude.{◌≡◌, ℕ, ◌+◌, ◌≤◌, true, false, List, [], ◌∷◌, ◌++◌, length, take, drop}
 use Rattle.std.proofs.Common.{refl, ◌∙◌, ap, arith, append_assoc, length-append, length-take, length-drop}
-use Rattle.std.proofs.lemmas.List.{take_all, take_at, drop_at}
+use Rattle.std.proofs.lemmas.List.{take_all, take_at, take-take, drop_at}
 use Rattle.sv_outside.specs.Disk.{Torn}
 use Rattle.disk_memory.specs.Calls.{Op, ops_of, reads, read_after, past_end, all_past_end, left_after, leaves, image, image_since}
 use Rattle.disk_memory.specs.Calls.Op.{wrote, cut, synced}
@@ -40,8 +40,8 @@ written_torn r bytes at le =
 pub here_after : (op : Op) (r : List ℕ) (I : List ℕ → Type 0) → past_end r op ≡ 0 → I r → left_after r I op (read_after r op)
 here_after (wrote at bytes true) r I e i = (r, i, written_torn r bytes at (omega (arith, e)))
 here_after (wrote at bytes false) r I e i = (r, i, record { before = refl; after = refl; no_shorter = omega arith; no_longer = omega arith })
-here_after (cut n true) r I e i = (r, i, record { no_shorter = omega (arith, e, length-take n r); front = ap (λ (k : ℕ). take k r) (omega (arith, e, length-take n r)) })
-here_after (cut n false) r I e i = (r, i, record { no_shorter = omega (arith, e); front = take_all (length r) r (omega arith) })
+here_after (cut n true) r I e i = (r, i, record { no_shorter = omega (arith, e, length-take n r); no_longer = omega (arith, length-take n r); front = take-take n n r (omega arith) })
+here_after (cut n false) r I e i = (r, i, record { no_shorter = omega (arith, e); no_longer = omega arith; front = refl })
 here_after (synced true) r I e i = refl
 here_after (synced false) r I e i = i
 

@@ -1,5 +1,6 @@
 -- What disks by name in memory show of themselves.
-use Rattle.std.specs.Prelude.{◌≡◌, ℕ, ◌==◌, Bool, List, [], Option, Some, None}
+use Rattle.std.specs.Prelude.{◌≡◌, ℕ, ◌==◌, Bool, List, [], Option, Some, None, String}
+use Rattle.std.specs.declared.alloc.Global.{Global}
 use Rattle.std.specs.List.{list_any}
 use Rattle.disk_memory.specs.declared.disks.MemoryDisks.{MemoryDisks}
 use Rattle.disk_memory.specs.declared.disks.SureDisks.{SureDisks}
@@ -7,6 +8,13 @@ use Rattle.disk_memory.specs.declared.memory_disk.MemoryDisk.{MemoryDisk}
 use Rattle.disk_memory.specs.declared.sure_disk.SureDisk.{SureDisk}
 use Rattle.disk_memory.specs.Named.{under}
 use Rattle.disk_memory.specs.Views.{memory_first, memory_record, memory_failing, memory_stop, memory_calls, memory_faults, sure_first, sure_record}
+
+-- the disks that were not handed out yet, by name
+abbrev pub memory_left : MemoryDisks → List (String Global × MemoryDisk)
+memory_left s = s.disks.items
+
+abbrev pub sure_left : SureDisks → List (String Global × SureDisk)
+sure_left s = s.disks.items
 
 -- the disk under each name
 abbrev pub memory_under : MemoryDisks → List ℕ → Option MemoryDisk

@@ -40,10 +40,10 @@ impl MemoryDisks {
 impl Disks for MemoryDisks {
     ghost use Rattle.std.specs.Prelude.{◌≡◌, ◌≢◌, ◌⊎◌, ◌≤◌, ℕ, List, [], true, false, IfOk, OnOk, OnErr};
     ghost use Rattle.sv_outside.specs.Outside.{Rose, counted};
-    ghost use Rattle.disk_memory.specs.OpensViews.{memory_under, memory_failing_opens, memory_opens, memory_open_faults, memory_open_fails, MemoryHandsOut};
+    ghost use Rattle.disk_memory.specs.OpensViews.{memory_under, memory_left, memory_failing_opens, memory_opens, memory_open_faults, memory_open_fails, MemoryHandsOut};
     ghost use Rattle.disk_memory.specs.Views.{memory_faults, memory_moment, memory_seen, memory_images};
     ghost use Rattle.disk_memory.specs.DisksViews.{memory_faults_of, memory_moment_of, memory_seen_of, memory_images_of};
-    ghost use Rattle.disk_memory.specs.Named.{under};
+    ghost use Rattle.disk_memory.specs.Named.{under, left_of};
 
     type D = MemoryDisk;
 
@@ -69,6 +69,7 @@ impl Disks for MemoryDisks {
             × (memory_seen_of (memory_under self.new other) ≡ memory_seen_of (memory_under self.old other))
             × ((c : List ℕ) → (memory_images_of (memory_under self.new other) c → memory_images_of (memory_under self.old other) c) × (memory_images_of (memory_under self.old other) c → memory_images_of (memory_under self.new other) c)) }
         ensures failed { OnErr result (Rose (memory_open_faults self.old) (memory_open_faults self.new)) }
+        ensures counted_fault { OnErr result (memory_open_faults self.new ≡ counted (memory_open_faults self.old)) }
         ensures not_failed { OnOk result (memory_open_faults self.new ≡ memory_open_faults self.old) }
         ensures later { memory_open_faults self.old ≤ memory_open_faults self.new }
         ensures counted { memory_opens self.new ≡ counted (memory_opens self.old) }
@@ -76,6 +77,7 @@ impl Disks for MemoryDisks {
         // It hands out the very disk that stands there, and the others stay.
         ensures handed { IfOk result (λ d. MemoryHandsOut (memory_under self.old name.now) d) }
         ensures same_others { (other : List ℕ) → (other ≢ name.now) ⊎ (other ≡ []) → memory_under self.new other ≡ memory_under self.old other }
+        ensures left { OnOk result (memory_left self.new ≡ left_of (memory_left self.old) name.now) }
 
         // It fails exactly where its number is one of those that fail, and then nothing is handed out.
         ensures fails { OnErr result (memory_open_fails self.old ≡ true) }
@@ -130,10 +132,10 @@ impl SureDisks {
 impl Disks for SureDisks {
     ghost use Rattle.std.specs.Prelude.{◌≡◌, ◌≢◌, ◌⊎◌, ℕ, List, [], IfOk, IsOk};
     ghost use Rattle.sv_outside.specs.Outside.{counted};
-    ghost use Rattle.disk_memory.specs.OpensViews.{sure_under, sure_opens, SureHandsOut};
+    ghost use Rattle.disk_memory.specs.OpensViews.{sure_under, sure_left, sure_opens, SureHandsOut};
     ghost use Rattle.disk_memory.specs.Views.{sure_moment, sure_seen, sure_images};
     ghost use Rattle.disk_memory.specs.DisksViews.{sure_moment_of, sure_seen_of, sure_images_of};
-    ghost use Rattle.disk_memory.specs.Named.{under};
+    ghost use Rattle.disk_memory.specs.Named.{under, left_of};
 
     type D = SureDisk;
 
@@ -162,6 +164,7 @@ impl Disks for SureDisks {
         // It hands out the very disk that stands there, and the others stay.
         ensures handed { IfOk result (λ d. SureHandsOut (sure_under self.old name.now) d) }
         ensures same_others { (other : List ℕ) → (other ≢ name.now) ⊎ (other ≡ []) → sure_under self.new other ≡ sure_under self.old other }
+        ensures left { sure_left self.new ≡ left_of (sure_left self.old) name.now }
         ensures never_fails { IsOk result }
     {
         self.calls = self.calls.saturating_add(1);

@@ -3,8 +3,8 @@ ghost use Rattle.disk_memory.specs.Calls.{ops_of, read_after, past_end};
 ghost use Rattle.disk_memory.specs.Listed.{listed_after, listed_by, listed_images};
 ghost use Rattle.disk_memory.specs.Replay.{contents, op_with, size_of, IsReplayable, IsReplayed, IsSettled};
 
+use crate::filling::filled;
 use crate::medium::{Call, Medium, cut_if, put_if};
-use crate::torn::{push_torn_cuts, push_torn_writes};
 use std::alloc::Global;
 use sv_base::NoMemory;
 
@@ -33,29 +33,6 @@ fn redo(read: &mut Vec<u8>, call: Call, piece: &[u8]) -> Result<(), NoMemory>
         Call::Sync { .. } => (),
     }
     Ok(())
-}
-
-/// Changes the list by one call.
-fn list_call(
-    alloc: Global,
-    images: &mut Vec<Vec<u8>>,
-    read: &[u8],
-    call: Call,
-    piece: &[u8],
-) -> Result<(), NoMemory>
-    requires { past_end read.now (op_with call piece.now) ≡ 0 }
-    ensures { OnOk result (contents images.new.items ≡ listed_after read.now (contents images.old.items) (op_with call piece.now)) }
-{
-    match call {
-        Call::Write { at, .. } => push_torn_writes(alloc, images, read, at as usize, piece),
-        Call::Cut { to, .. } => push_torn_cuts(alloc, images, read, to as usize),
-        Call::Sync { done: true } => {
-            images.clear();
-            images.push(Vec::from_slice(alloc, read)?)?;
-            Ok(())
-        }
-        Call::Sync { done: false } => Ok(()),
-    }
 }
 
 /// How many calls there were when the last sync was done.
@@ -90,6 +67,42 @@ fn step(replay: &mut Replay, call: Call, store: &[u8]) -> Result<(), NoMemory>
     redo(&mut replay.read, call, piece)?;
     replay.used += piece.len();
     Ok(())
+}
+
+/// Goes on by one call, and changes the list by it.
+fn list_call(
+    alloc: Global,
+    images: &mut Vec<Vec<u8>>,
+    replay: &mut Replay,
+    call: Call,
+    store: &[u8],
+) -> Result<(), NoMemory>
+    requires inside { replay.old.used + size_of call ≤ length store.now }
+    requires place { past_end replay.old.read.items (op_with call (take (size_of call) (drop replay.old.used store.now))) ≡ 0 }
+    ensures listed { OnOk result (contents images.new.items ≡ listed_after replay.old.read.items (contents images.old.items) (op_with call (take (size_of call) (drop replay.old.used store.now)))) }
+    ensures read { OnOk result (replay.new.read.items ≡ read_after replay.old.read.items (op_with call (take (size_of call) (drop replay.old.used store.now)))) }
+    ensures used { OnOk result (replay.new.used ≡ replay.old.used + size_of call) }
+{
+    match call {
+        Call::Write { at, len, .. } => {
+            images.push(filled(alloc, &replay.read, at as usize, len as usize)?)?;
+            step(replay, call, store)?;
+            images.push(Vec::from_slice(alloc, &replay.read)?)?;
+            Ok(())
+        }
+        Call::Cut { .. } => {
+            step(replay, call, store)?;
+            images.push(Vec::from_slice(alloc, &replay.read)?)?;
+            Ok(())
+        }
+        Call::Sync { done: true } => {
+            step(replay, call, store)?;
+            images.clear();
+            images.push(Vec::from_slice(alloc, &replay.read)?)?;
+            Ok(())
+        }
+        Call::Sync { done: false } => step(replay, call, store),
+    }
 }
 
 /// Does the first calls again, so many.
@@ -127,9 +140,7 @@ fn list_from(
     let mut images = Vec::new(alloc);
     images.push(Vec::from_slice(alloc, &replay.read)?)?;
     for at in 0..calls.len() {
-        let piece = piece_of(calls[at], store, replay.used);
-        list_call(alloc, &mut images, &replay.read, calls[at], piece)?;
-        step(&mut replay, calls[at], store)?;
+        list_call(alloc, &mut images, &mut replay, calls[at], store)?;
     }
     Ok(images)
 }

@@ -3,12 +3,12 @@
 #![tactic(auto)]
 
 mod disks;
+mod filling;
 mod images;
 mod medium;
 mod memory_disk;
 mod named;
 mod sure_disk;
-mod torn;
 
 pub use disks::{MemoryDisks, SureDisks};
 pub use memory_disk::MemoryDisk;

@@ -71,9 +71,8 @@ impl MemoryDisk {
         }
     }
 
-    /// Some of its crash images. First what stood after the last sync that was done; then, for each call since, what it
-    /// may leave of what was read before it: a write with each number of its bytes done, and behind them the old bytes or
-    /// ones, a cut with each length.
+    /// Some of its crash images: what stood after the last sync that was done, that after each call since, and before each
+    /// write what was read with ones in the range of the write.
     pub fn images(&self, alloc: Global) -> Result<Vec<Vec<u8>>, NoMemory>
         ensures listed { IfOk result (λ l. contents l.items ≡ listed_images (memory_first self.now) (memory_record self.now)) }
         ensures left { IfOk result (λ l. All (memory_images self.now) (contents l.items)) }
@@ -90,7 +89,7 @@ impl MemoryDisk {
         ensures failing { memory_failing self.new ≡ memory_failing self.old }
         ensures stop { memory_stop self.new ≡ memory_stop self.old }
         ensures number { memory_calls self.new ≡ counted (memory_calls self.old) }
-        ensures failed { result ≡ false → Rose self.old.faults self.new.faults }
+        ensures failed { result ≡ false → self.new.faults ≡ counted self.old.faults }
         ensures not_failed { result ≡ true → self.new.faults ≡ self.old.faults }
         ensures later { self.old.faults ≤ self.new.faults }
     {
@@ -109,7 +108,7 @@ impl MemoryDisk {
 
 impl Disk for MemoryDisk {
     ghost use Rattle.std.specs.Prelude.{◌≡◌, ◌≤◌, ◌+◌, [], ◌∷◌, List, ℕ, true, false, not, length, take, drop, IfOk, OnOk, OnErr};
-    ghost use Rattle.sv_outside.specs.Outside.{Rose};
+    ghost use Rattle.sv_outside.specs.Outside.{Rose, counted};
     ghost use Rattle.sv_outside.specs.Disk.{Only, Follows, Torn, Cut, Holds, Elapses, IsStill, HasRoom, TakesRoom};
     ghost use Rattle.disk_memory.specs.Calls.Op.{wrote, cut, synced};
     ghost use Rattle.disk_memory.specs.Media.{medium_seen, medium_images, medium_moment, medium_since, medium_room};
@@ -136,6 +135,7 @@ impl Disk for MemoryDisk {
         ensures seen { memory_seen self.new ≡ memory_seen self.old }
         ensures still { IsStill (memory_moment self.old) (memory_moment self.new) (memory_since self.old) (memory_since self.new) (memory_images self.old) (memory_images self.new) }
         ensures failed { OnErr result (Rose (memory_faults self.old) (memory_faults self.new)) }
+        ensures counted { OnErr result (memory_faults self.new ≡ counted (memory_faults self.old)) }
         ensures not_failed { OnOk result (memory_faults self.new ≡ memory_faults self.old) }
         ensures later { memory_faults self.old ≤ memory_faults self.new }
         ensures room { memory_room self.new ≡ memory_room self.old }
@@ -168,6 +168,7 @@ impl Disk for MemoryDisk {
         ensures seen { memory_seen self.new ≡ memory_seen self.old }
         ensures still { IsStill (memory_moment self.old) (memory_moment self.new) (memory_since self.old) (memory_since self.new) (memory_images self.old) (memory_images self.new) }
         ensures failed { OnErr result (Rose (memory_faults self.old) (memory_faults self.new)) }
+        ensures counted { OnErr result (memory_faults self.new ≡ counted (memory_faults self.old)) }
         ensures not_failed { OnOk result (memory_faults self.new ≡ memory_faults self.old) }
         ensures later { memory_faults self.old ≤ memory_faults self.new }
         ensures room { memory_room self.new ≡ memory_room self.old }
@@ -194,6 +195,7 @@ impl Disk for MemoryDisk {
         ensures crash { Follows (Torn at (length bytes.now)) (memory_images self.old) (memory_images self.new) }
         ensures time { Elapses (memory_moment self.old) (memory_moment self.new) (memory_since self.old) (memory_since self.new) (memory_images self.new) }
         ensures failed { OnErr result (Rose (memory_faults self.old) (memory_faults self.new)) }
+        ensures counted { OnErr result (memory_faults self.new ≡ counted (memory_faults self.old)) }
         ensures not_failed { OnOk result (memory_faults self.new ≡ memory_faults self.old) }
         ensures later { memory_faults self.old ≤ memory_faults self.new }
         ensures room { TakesRoom 1 (length bytes.now) (memory_room self.old) (memory_room self.new) }
@@ -216,6 +218,7 @@ impl Disk for MemoryDisk {
         ensures crash { Follows (Cut to) (memory_images self.old) (memory_images self.new) }
         ensures time { Elapses (memory_moment self.old) (memory_moment self.new) (memory_since self.old) (memory_since self.new) (memory_images self.new) }
         ensures failed { OnErr result (Rose (memory_faults self.old) (memory_faults self.new)) }
+        ensures counted { OnErr result (memory_faults self.new ≡ counted (memory_faults self.old)) }
         ensures not_failed { OnOk result (memory_faults self.new ≡ memory_faults self.old) }
         ensures later { memory_faults self.old ≤ memory_faults self.new }
         ensures room { TakesRoom 1 0 (memory_room self.old) (memory_room self.new) }
@@ -237,6 +240,7 @@ impl Disk for MemoryDisk {
         ensures crash { (c : List ℕ) → memory_images self.new c → memory_images self.old c }
         ensures time { Elapses (memory_moment self.old) (memory_moment self.new) (memory_since self.old) (memory_since self.new) (memory_images self.new) }
         ensures failed { OnErr result (Rose (memory_faults self.old) (memory_faults self.new)) }
+        ensures counted { OnErr result (memory_faults self.new ≡ counted (memory_faults self.old)) }
         ensures not_failed { OnOk result (memory_faults self.new ≡ memory_faults self.old) }
         ensures later { memory_faults self.old ≤ memory_faults self.new }
         ensures room { TakesRoom 1 0 (memory_room self.old) (memory_room self.new) }

@@ -1,6 +1,6 @@
 -- What a crash leaves while a header is written.
 use Rattle.std.proofs.Common.{◌≡◌, inl, inr, ℕ, ◌<◌, ◌≤◌, List, [], ◌∷◌, ◌++◌, length, get_or, take, refl, sym, ◌∙◌, ap, arith, length-append, rules}
-use Rattle.std.proofs.lemmas.List.{append-nil, get_or-take, length-take, take_at}
+use Rattle.std.proofs.lemmas.List.{append-nil, get_or-take, take_at}
 use Rattle.std.proofs.lemmas.Bool.Decides.{eqb_tells}
 use Rattle.sv_outside.specs.Disk.{Torn, Cut}
 use Rattle.journal.specs.declared.digests.Digests.{Digests}
@@ -45,9 +45,9 @@ opening_torn digests bytes (x ∷ rest) long is torn =
 pub cut_torn : (now c : List ℕ) → IsUnfinished now → 1 < length now → Cut 1 now c → IsUnfinished c
 cut_torn now c (inl short) long cut = absurd (omega (arith, short, long))
 cut_torn now c (inr begun) long cut =
-    let some : 0 < length c = omega (arith, long, cut.no_shorter) in
-    let same : get_or c 0 0 ≡ get_or now 0 0 = ap (λ (l : List ℕ). get_or l 0 0) (sym cut.front) ∙ get_or-take (length c) now 0 0 some in
-    inr (λ one. begun.0 (sym same ∙ one), omega (arith, ap length cut.front, length-take (length c) now, begun.1))
+    let here : 0 < 1 = omega arith in
+    let same : get_or c 0 0 ≡ get_or now 0 0 = sym (get_or-take 1 c 0 0 here) ∙ (ap (λ (l : List ℕ). get_or l 0 0) cut.front ∙ get_or-take 1 now 0 0 here) in
+    inr (λ one. begun.0 (sym same ∙ one), omega (arith, cut.no_longer, begun.1))
 
 -- a fresh journal begins with a header that opening accepts
 pub fresh_known : (digests : Digests) (image : List ℕ) → length image ≡ 41 → image ≡ at_rest (header_of Second digests.current) [] → IsKnown digests image Second

@@ -1,6 +1,5 @@
 -- How a run of disk calls goes on.
-use Rattle.std.proofs.Common.{length, refl, sym, subst, inl, inr, ⊎_elim, ℕ, List, arith}
-use Rattle.std.proofs.lemmas.List.{take_all}
+use Rattle.std.proofs.Common.{refl, sym, subst, inl, inr, ⊎_elim, ℕ, List, arith}
 use Rattle.sv_outside.specs.Disk.{Elapses, LeavesOnly, Torn, Cut, IsStill}
 
 -- a write that did nothing
@@ -9,7 +8,7 @@ torn_same at n image = record { before = refl; after = refl; no_shorter = omega 
 
 -- a cut that did nothing
 pub cut_same : (n : ℕ) (image : List ℕ) → Cut n image image
-cut_same n image = record { no_shorter = omega arith; front = take_all (length image) image (omega arith) }
+cut_same n image = record { no_shorter = omega arith; no_longer = omega arith; front = refl }
 
 module _ {D : Type 0} (moment : D → ℕ) (left_since : D → ℕ → List ℕ → Type 0) where
   -- before the first call

@@ -1,5 +1,5 @@
 -- What a crash leaves while the end of an image is mended.
-use Rattle.std.proofs.Common.{◌≡◌, ◌≢◌, ℕ, ◌+◌, ◌<◌, List, [], ◌∷◌, ◌++◌, length, get_or, take, drop, sym, ◌∙◌, ap, subst, arith, length-take}
+use Rattle.std.proofs.Common.{◌≡◌, ◌≢◌, ℕ, ◌+◌, ◌<◌, List, [], ◌∷◌, ◌++◌, length, get_or, take, drop, sym, ◌∙◌, ap, subst, arith}
 use Rattle.std.proofs.lemmas.List.{take-take, drop_more, drop_all, take_more, get_or-take, get_or-drop, append-nil, take_all}
 use Rattle.sv_outside.specs.Disk.{Torn, Cut, Holds}
 use Rattle.journal.specs.Endings.{EndsThere, IsCutAt}
@@ -23,12 +23,13 @@ module _ (image : List ℕ) (gate : ℕ) where
   pub cut_ends : (c : List ℕ) → gate + 1 < length image → IsClosed (drop gate image) → Cut (gate + 1) image c → EndsThere gate image c
   cut_ends c long closed cut =
       let inside : gate < length c = omega (arith, long, cut.no_shorter) in
-      let same : get_or c gate 0 ≡ last = ap (λ (l : List ℕ). get_or l gate 0) (sym cut.front) ∙ get_or-take (length c) image gate 0 inside in
+      let here : gate < gate + 1 = omega arith in
+      let same : get_or c gate 0 ≡ last = sym (get_or-take (gate + 1) c gate 0 here) ∙ (ap (λ (l : List ℕ). get_or l gate 0) cut.front ∙ get_or-take (gate + 1) image gate 0 here) in
       let tail : drop gate c ≡ last ∷ drop (gate + 1) c = drop_more c gate 0 inside ∙ ap (λ (k : ℕ). k ∷ drop (gate + 1) c) same in
       record {
-        front = ap (take gate) (sym cut.front) ∙ take-take gate (length c) image (omega (arith, inside));
+        front = sym (take-take gate (gate + 1) c (omega arith)) ∙ (ap (take gate) cut.front ∙ take-take gate (gate + 1) image (omega arith));
         closed = subst IsClosed (sym tail) (shut last (drop (gate + 1) c) (is_shut long closed));
-        no_longer = omega (arith, ap length cut.front, length-take (length c) image);
+        no_longer = cut.no_longer;
       }
 
   pub cut_done : (c : List ℕ) → gate + 1 < length image → IsClosed (drop gate image) → c ≡ take (gate + 1) image → IsCutAt gate image c

@@ -1,5 +1,5 @@
 -- What the calls of a disk do, and what a crash may leave of it. Between two syncs a written range, and whatever lies past
--- the old end, may hold any bytes, and the length may be any between the old and the new one.
+-- the old end or past a cut, may hold any bytes, and the length may be any between the old and the new one.
 use Rattle.std.specs.Prelude.{◌≡◌, ◌⊎◌, ℕ, ◌+◌, ◌≤◌, min, max, List, ◌++◌, length, take, drop}
 
 -- new is old with these bytes at this offset
@@ -13,10 +13,11 @@ pub record Torn (at n : ℕ) (old new : List ℕ) : Type 0 where
   pub no_shorter : length old ≤ length new
   pub no_longer : length new ≤ max (length old) (at + n)
 
--- after a cut to n bytes that may be cut short: some length between, and what is no longer than n stays
+-- after a cut to n bytes that may be cut short: some length between, and any bytes behind the first n
 pub record Cut (n : ℕ) (old new : List ℕ) : Type 0 where
   pub no_shorter : min n (length old) ≤ length new
-  pub front : take (length new) old ≡ new
+  pub no_longer : length new ≤ length old
+  pub front : take n new ≡ take n old
 
 -- each new outcome of a crash is an old outcome after a step
 abbrev pub Follows : (List ℕ → List ℕ → Type 0) → (List ℕ → Type 0) → (List ℕ → Type 0) → Type 0

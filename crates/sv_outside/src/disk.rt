@@ -69,7 +69,7 @@ pub trait Disk: Drop {
         ensures later { faults self.old ≤ faults self.new }
         ensures room { TakesRoom 1 (length bytes.now) (room self.old) (room self.new) };
 
-    /// Makes the file no longer than that. Until a sync a crash may leave any length between.
+    /// Makes the file no longer than that. Until a sync a crash may leave any length between, and any bytes past it.
     fn cut(&mut self, to: u64) -> Result<(), DiskFailed>
         requires place { told ≡ true → to ≤ length (seen self.old) }
         requires room { HasRoom (room self.old) 0 1 0 }

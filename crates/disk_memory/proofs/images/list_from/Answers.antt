@@ -10,11 +10,11 @@ loop-at-preserved c =
     let read = c.args.replay.read.items in
     let ops = ops_of c.args.calls.now (drop c.args.replay.used c.args.store.now) in
     let inside : c.loop-at.at < length c.args.calls.now = omega arith in
-    let listed = rw (c.piece_of-piece.ensures, c.deref-in-loop-at.ensures.value) at c.in_ok-list_call.ensures in
+    let all = c.in_ok-list_call.ensures in
     record {
       replayed = next read ops c.args.calls.now c.args.store.now c.loop-at.at c.loop-at.replay.read.items c.loop-at.replay.used _ inside c.loop-at.invariant.replayed
-          c.step.new.replay.read.items c.step.new.replay.used c.in_ok-step.ensures.read c.in_ok-step.ensures.used;
-      listed = rw (c.in_ok-step.ensures.read, listed)
+          c.list_call.new.replay.read.items c.list_call.new.replay.used all.read all.used;
+      listed = rw (all.read, all.listed)
           (next_listed read ops c.args.calls.now c.args.store.now c.loop-at.at c.loop-at.replay.read.items c.loop-at.replay.used _ inside c.loop-at.invariant.replayed
           (contents c.loop-at.images.items) (listed_by read (read ∷ []) ops) c.loop-at.invariant.listed);
     }

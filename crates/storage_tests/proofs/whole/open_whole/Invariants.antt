@@ -1,5 +1,5 @@
 use Rattle.journal.specs.Readings.{IsReading, IsGoing}
-use Rattle.journal_tests.proofs.whole.open_whole.Given as goal
+use Rattle.storage_tests.proofs.whole.open_whole.Given as goal
 
 abbrev pub invariant-loop : goal.invariant-loop
 invariant-loop g l = record {

@@ -3,29 +3,14 @@ use std::test::Fail;
 use sv_base::DiskFailed;
 use sv_outside::{Disk, Disks};
 
-fn is_image(image: &[u8], wanted: &str) -> bool {
-    let mut words = wanted.split(' ');
-    let mut is_same = true;
-    for byte in image {
-        is_same = match words.next() {
-            Some(word) => word.parse::<u8>() == Ok(*byte) && is_same,
-            None => false,
-        };
+// Whether these are the images, in this order.
+fn are(images: &[Vec<u8>], wanted: &[&[u8]]) -> bool {
+    for (image, bytes) in images.iter().zip(wanted.iter()) {
+        if image.as_slice() != *bytes {
+            return false;
+        }
     }
-    is_same && words.next().is_none()
-}
-
-// Whether these are the images, in this order, with commas between them.
-fn are(images: &[Vec<u8>], wanted: &str) -> bool {
-    let mut rows = wanted.split(',');
-    let mut are_same = true;
-    for image in images {
-        are_same = match rows.next() {
-            Some(row) => is_image(image, row) && are_same,
-            None => false,
-        };
-    }
-    are_same && rows.next().is_none()
+    images.len() == wanted.len()
 }
 
 #[test]
@@ -64,13 +49,13 @@ fn images_of_calls_that_were_done(rt: HostRuntime) -> Result<(), Fail> {
     disk.reserve(4, 3, 2)?;
     assert!(rt; disk.write_at(2, &[5, 6]).is_ok());
     let written = disk.images(alloc)?;
-    assert!(rt; are(&written, "7 8,7 8 1 1,7 8 5,7 8 5 1,7 8 5 6"));
+    assert!(rt; are(&written, &[&[7, 8], &[7, 8, 1, 1], &[7, 8, 5, 6]]));
     assert!(rt; disk.cut(3).is_ok());
     let cut = disk.images(alloc)?;
-    assert!(rt; are(&cut, "7 8,7 8 1 1,7 8 5,7 8 5 1,7 8 5 6,7 8 5"));
+    assert!(rt; are(&cut, &[&[7, 8], &[7, 8, 1, 1], &[7, 8, 5, 6], &[7, 8, 5]]));
     assert!(rt; disk.sync().is_ok());
     let synced = disk.images(alloc)?;
-    assert!(rt; are(&synced, "7 8 5"));
+    assert!(rt; are(&synced, &[&[7, 8, 5]]));
     Ok(())
 }
 
@@ -83,7 +68,12 @@ fn images_of_calls_that_failed(rt: HostRuntime) -> Result<(), Fail> {
     assert_eq!(rt; disk.sync(), Err(DiskFailed));
     assert_eq!(rt; disk.write_at(0, &[5]), Err(DiskFailed));
     let images = disk.images(alloc)?;
-    assert!(rt; are(&images, "7 8 9,7 1 9,7 4 9,1 4 9,5 4 9"));
+    assert!(rt;
+        are(
+            &images,
+            &[&[7, 8, 9], &[7, 1, 9], &[7, 4, 9], &[1, 4, 9], &[7, 4, 9]]
+        )
+    );
     Ok(())
 }
 

@@ -35,6 +35,7 @@ fn real_files(rt: HostRuntime) -> Result<(), Fail> {
             disk.reserve(8, 4, 7)?;
             assert_eq!(rt; writes_again(&mut disk), Ok(*b"bcbx"));
             assert_eq!(rt; disk.read_at(3, &mut [0; 2]), Err(DiskFailed));
+            assert!(rt; disks.open(NAME).is_err(), "the file is locked");
         }
         Err(_) => assert!(rt; false),
     }
