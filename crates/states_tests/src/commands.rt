@@ -109,59 +109,128 @@ pub(crate) fn place(line: &str, at: usize) -> Option<usize> {
     word(line, at)?.parse().ok()
 }
 
+fn set_interval(line: &str) -> Option<Command> {
+    Some(Command::Interval(name(line, 1)?, register(line, 2)?, interval(word(line, 3)?)))
+}
+
+fn set_sum(line: &str) -> Option<Command> {
+    Some(Command::Sum(
+        name(line, 1)?,
+        register(line, 2)?,
+        register(line, 3)?,
+        number(line, 4)?,
+    ))
+}
+
+fn assume(line: &str) -> Option<Command> {
+    Some(Command::Assume(
+        name(line, 1)?,
+        comparison(word(line, 2)?)?,
+        operand(word(line, 3)?)?,
+        operand(word(line, 4)?)?,
+    ))
+}
+
+fn add_difference(line: &str) -> Option<Command> {
+    Some(Command::Difference(
+        name(line, 1)?,
+        register(line, 2)?,
+        register(line, 3)?,
+        number(line, 4)?,
+    ))
+}
+
+fn within(line: &str) -> Option<Command> {
+    Some(Command::Within(name(line, 1)?, name(line, 2)?, truth(word(line, 3)?)?))
+}
+
+fn of_one(line: &str, make: Single) -> Option<Command> {
+    let x = name(line, 1)?;
+    match make {
+        Single::Top => Some(Command::Top(x)),
+        Single::Bottom => Some(Command::Bottom(x)),
+    }
+}
+
+// Commands that name one state alone.
+#[derive(Clone, Copy)]
+enum Single {
+    Top,
+    Bottom,
+}
+
+// Commands that name two states alone.
+#[derive(Clone, Copy)]
+enum Double {
+    Copy,
+    Join,
+    Widen,
+}
+
+fn of_two(line: &str, make: Double) -> Option<Command> {
+    let x = name(line, 1)?;
+    let y = name(line, 2)?;
+    match make {
+        Double::Copy => Some(Command::Copy(x, y)),
+        Double::Join => Some(Command::Join(x, y)),
+        Double::Widen => Some(Command::Widen(x, y)),
+    }
+}
+
 fn state_command(line: &str) -> Option<Command> {
-    match word(line, 0)?.as_bytes() {
-        b"top" => Some(Command::Top(name(line, 1)?)),
-        b"copy" => Some(Command::Copy(name(line, 1)?, name(line, 2)?)),
-        b"bottom" => Some(Command::Bottom(name(line, 1)?)),
-        b"interval" => Some(Command::Interval(
-            name(line, 1)?,
-            register(line, 2)?,
-            interval(word(line, 3)?),
-        )),
-        b"sum" => Some(Command::Sum(
-            name(line, 1)?,
-            register(line, 2)?,
-            register(line, 3)?,
-            number(line, 4)?,
-        )),
-        b"assume" => Some(Command::Assume(
-            name(line, 1)?,
-            comparison(word(line, 2)?)?,
-            operand(word(line, 3)?)?,
-            operand(word(line, 4)?)?,
-        )),
-        b"difference" => Some(Command::Difference(
-            name(line, 1)?,
-            register(line, 2)?,
-            register(line, 3)?,
-            number(line, 4)?,
-        )),
-        b"join" => Some(Command::Join(name(line, 1)?, name(line, 2)?)),
-        b"widen" => Some(Command::Widen(name(line, 1)?, name(line, 2)?)),
-        b"within" => Some(Command::Within(name(line, 1)?, name(line, 2)?, truth(word(line, 3)?)?)),
+    match word(line, 0).unwrap_or("").as_bytes() {
+        b"top" => of_one(line, Single::Top),
+        b"bottom" => of_one(line, Single::Bottom),
+        b"copy" => of_two(line, Double::Copy),
+        b"join" => of_two(line, Double::Join),
+        b"widen" => of_two(line, Double::Widen),
+        b"interval" => set_interval(line),
+        b"sum" => set_sum(line),
+        b"assume" => assume(line),
+        b"difference" => add_difference(line),
+        b"within" => within(line),
         _ => None,
     }
 }
 
+// Commands that name a patch, a widening or a mark by its number.
+fn of_number(line: &str) -> Option<Command> {
+    let at = place(line, 1)?;
+    match word(line, 0).unwrap_or("").as_bytes() {
+        b"take_back" => Some(Command::TakeBack(at)),
+        b"join_patch" => Some(Command::JoinPatch(at)),
+        b"join_mark" => Some(Command::JoinMark(at)),
+        b"no_exit" => Some(Command::NoExit(at)),
+        b"widen_mark" => Some(Command::WidenMark(at)),
+        b"new_widening" => Some(Command::NewWidening(at)),
+        b"keep_all" => Some(Command::KeepAll(at)),
+        b"put" => Some(Command::Put(at)),
+        _ => None,
+    }
+}
+
+fn leave(line: &str) -> Option<Command> {
+    Some(Command::Leave(place(line, 1)?, place(line, 2)?))
+}
+
+fn is_at(line: &str) -> Option<Command> {
+    Some(Command::IsAt(place(line, 1)?, truth(word(line, 2)?)?))
+}
+
+fn is_within(line: &str) -> Option<Command> {
+    Some(Command::IsWithin(truth(word(line, 1)?)?))
+}
+
 fn running_command(line: &str) -> Option<Command> {
-    match word(line, 0)?.as_bytes() {
+    match word(line, 0).unwrap_or("").as_bytes() {
         b"mark" => Some(Command::Mark),
         b"release" => Some(Command::Release),
         b"undo" => Some(Command::Undo),
-        b"take_back" => Some(Command::TakeBack(place(line, 1)?)),
-        b"join_patch" => Some(Command::JoinPatch(place(line, 1)?)),
-        b"join_mark" => Some(Command::JoinMark(place(line, 1)?)),
-        b"leave" => Some(Command::Leave(place(line, 1)?, place(line, 2)?)),
-        b"no_exit" => Some(Command::NoExit(place(line, 1)?)),
-        b"is_within" => Some(Command::IsWithin(truth(word(line, 1)?)?)),
-        b"widen_mark" => Some(Command::WidenMark(place(line, 1)?)),
-        b"new_widening" => Some(Command::NewWidening(place(line, 1)?)),
         b"set_top" => Some(Command::SetTop),
-        b"keep_all" => Some(Command::KeepAll(place(line, 1)?)),
-        b"is_at" => Some(Command::IsAt(place(line, 1)?, truth(word(line, 2)?)?)),
-        b"put" => Some(Command::Put(place(line, 1)?)),
-        _ => None,
+        b"leave" => leave(line),
+        b"is_within" => is_within(line),
+        b"is_at" => is_at(line),
+        _ => of_number(line),
     }
 }
 

@@ -548,4 +548,84 @@ release\n\
 shows a bottom\n\
 shows a bottom\n\
 shows a bottom\n\
+layout 0 3|1|2|4 ; 0:255 0:255 0:255 -128:127 0:255\n\
+interval a 0 4:7\n\
+interval a 1 0:3\n\
+interval a 2 9:12\n\
+interval a 3 1:4\n\
+interval a 4 2:5\n\
+mark\n\
+no_exit 1\n\
+mark\n\
+no_exit 2\n\
+mark\n\
+assume a ne r4 r0\n\
+leave 0 1\n\
+take_back 3\n\
+assume a eq r4 r0\n\
+join_patch 3\n\
+release\n\
+mark\n\
+assume a gt 15 r0\n\
+sum a 2 4 -1\n\
+sum a 4 3 -1\n\
+leave 0 1\n\
+take_back 4\n\
+assume a le 15 r0\n\
+join_patch 4\n\
+release\n\
+join_patch 2\n\
+release\n\
+shows a bottom\n\
+join_patch 1\n\
+release\n\
+shows a 4:7 0:3 3:12 1:4 0:5 0-3:6 3-0:0\n\
+mark\n\
+no_exit 5\n\
+mark\n\
+assume a ne r2 r3\n\
+leave 0 5\n\
+take_back 6\n\
+assume a eq r2 r3\n\
+join_patch 6\n\
+release\n\
+mark\n\
+assume a eq r3 r4\n\
+sum a 4 4 -1\n\
+leave 0 5\n\
+take_back 7\n\
+assume a ne r3 r4\n\
+join_patch 7\n\
+release\n\
+leave 0 5\n\
+join_patch 5\n\
+release\n\
+shows a 4:7 0:3 3:12 1:4 0:5 0-3:6 3-0:0\n\
+mark\n\
+no_exit 8\n\
+mark\n\
+assume a gt r0 r4\n\
+sum a 2 1 -1\n\
+sum a 2 4 1\n\
+interval a 3 -3:6\n\
+leave 0 8\n\
+take_back 9\n\
+assume a le r0 r4\n\
+join_patch 9\n\
+release\n\
+mark\n\
+no_exit 10\n\
+mark\n\
+assume a le 0 r1\n\
+leave 0 8\n\
+take_back 11\n\
+assume a gt 0 r1\n\
+join_patch 11\n\
+release\n\
+join_patch 10\n\
+release\n\
+shows a bottom\n\
+join_patch 8\n\
+release\n\
+shows a 4:7 0:3 1:12 -3:6 0:5 0-3:10 3-0:2\n\
 ";

@@ -35,83 +35,147 @@ fn unary_operator(word: &str) -> Option<UnOp> {
     }
 }
 
+fn convert(line: &str) -> Option<Value> {
+    Some(Value::Convert(type_at(line, 3)?, operand_at(line, 4)?))
+}
+
+fn unary(line: &str) -> Option<Value> {
+    Some(Value::Unary(
+        unary_operator(word(line, 3)?)?,
+        type_at(line, 4)?,
+        operand_at(line, 5)?,
+    ))
+}
+
+fn binary(line: &str) -> Option<Value> {
+    Some(Value::Binary(
+        operator(word(line, 3)?)?,
+        type_at(line, 4)?,
+        operand_at(line, 5)?,
+        operand_at(line, 6)?,
+    ))
+}
+
+fn compare(line: &str) -> Option<Value> {
+    Some(Value::Compare(
+        comparison(word(line, 3)?)?,
+        operand_at(line, 4)?,
+        operand_at(line, 5)?,
+    ))
+}
+
+fn minus(line: &str) -> Option<Value> {
+    Some(Value::Minus {
+        a: register(line, 3)?,
+        b: register(line, 4)?,
+        size: word(line, 5)?.parse().ok()?,
+    })
+}
+
+fn pointers(line: &str) -> Option<Value> {
+    Some(Value::PointerCompare(Cmp::Lt, register(line, 3)?, register(line, 4)?))
+}
+
+fn to_int(line: &str) -> Option<Value> {
+    Some(Value::ToInt(type_at(line, 3)?, register(line, 4)?))
+}
+
+fn copy(line: &str) -> Option<Value> {
+    Some(Value::Copy(operand_at(line, 3)?))
+}
+
 fn value(line: &str) -> Option<Value> {
-    match word(line, 1)?.as_bytes() {
-        b"copy" => Some(Value::Copy(operand_at(line, 3)?)),
-        b"convert" => Some(Value::Convert(type_at(line, 3)?, operand_at(line, 4)?)),
-        b"unary" => Some(Value::Unary(
-            unary_operator(word(line, 3)?)?,
-            type_at(line, 4)?,
-            operand_at(line, 5)?,
-        )),
-        b"binary" => Some(Value::Binary(
-            operator(word(line, 3)?)?,
-            type_at(line, 4)?,
-            operand_at(line, 5)?,
-            operand_at(line, 6)?,
-        )),
-        b"compare" => Some(Value::Compare(
-            comparison(word(line, 3)?)?,
-            operand_at(line, 4)?,
-            operand_at(line, 5)?,
-        )),
+    match word(line, 1).unwrap_or("").as_bytes() {
+        b"copy" => copy(line),
+        b"convert" => convert(line),
+        b"unary" => unary(line),
+        b"binary" => binary(line),
+        b"compare" => compare(line),
         b"address" => Some(Value::Address(0)),
         b"null" => Some(Value::Null),
         b"from_int" => Some(Value::FromInt(Operand::Const(1))),
         b"function" => Some(Value::Function(1)),
-        b"to_int" => Some(Value::ToInt(type_at(line, 3)?, register(line, 4)?)),
-        b"minus" => Some(Value::Minus {
-            a: register(line, 3)?,
-            b: register(line, 4)?,
-            size: word(line, 5)?.parse().ok()?,
-        }),
-        b"pointers" => Some(Value::PointerCompare(Cmp::Lt, register(line, 3)?, register(line, 4)?)),
+        b"to_int" => to_int(line),
+        b"minus" => minus(line),
+        b"pointers" => pointers(line),
         _ => None,
     }
 }
 
+fn sum(line: &str) -> Option<Step> {
+    Some(Step::Sum {
+        to: register(line, 2)?,
+        base: register(line, 3)?,
+        index: operand_at(line, 4)?,
+        size: word(line, 5)?.parse().ok()?,
+    })
+}
+
+fn check(line: &str) -> Option<Step> {
+    Some(Step::Check {
+        site: SiteId(0),
+        address: register(line, 2)?,
+        width: word(line, 3)?.parse().ok()?,
+    })
+}
+
+fn sub(line: &str) -> Option<Step> {
+    Some(Step::Sub {
+        to: register(line, 2)?,
+        address: register(line, 3)?,
+        part: 0,
+    })
+}
+
+fn load(line: &str) -> Option<Step> {
+    Some(Step::Load {
+        to: register(line, 2)?,
+        address: register(line, 3)?,
+        leaf: leaf_at(line, 4)?,
+        volatile: truth(word(line, 5)?)?,
+    })
+}
+
+fn store(line: &str) -> Option<Step> {
+    Some(Step::Store {
+        address: register(line, 2)?,
+        value: operand_at(line, 3)?,
+        leaf: leaf_at(line, 4)?,
+    })
+}
+
+fn copy_object(line: &str) -> Option<Step> {
+    Some(Step::CopyObject {
+        to: register(line, 2)?,
+        from: register(line, 3)?,
+        layout: register(line, 4)?,
+    })
+}
+
+fn begin(line: &str) -> Option<Step> {
+    Some(Step::Begin {
+        object: register(line, 2)?,
+        initialised: truth(word(line, 3)?)?,
+    })
+}
+
+fn set(line: &str) -> Option<Step> {
+    Some(Step::Set {
+        to: register(line, 2)?,
+        value: value(line)?,
+    })
+}
+
 fn plain_step(line: &str) -> Option<Step> {
-    match word(line, 1)?.as_bytes() {
-        b"add" => Some(Step::Sum {
-            to: register(line, 2)?,
-            base: register(line, 3)?,
-            index: operand_at(line, 4)?,
-            size: word(line, 5)?.parse().ok()?,
-        }),
-        b"check" => Some(Step::Check {
-            site: SiteId(0),
-            address: register(line, 2)?,
-            width: word(line, 3)?.parse().ok()?,
-        }),
-        b"sub" => Some(Step::Sub {
-            to: register(line, 2)?,
-            address: register(line, 3)?,
-            part: 0,
-        }),
-        b"load" => Some(Step::Load {
-            to: register(line, 2)?,
-            address: register(line, 3)?,
-            leaf: leaf_at(line, 4)?,
-            volatile: truth(word(line, 5)?)?,
-        }),
-        b"store" => Some(Step::Store {
-            address: register(line, 2)?,
-            value: operand_at(line, 3)?,
-            leaf: leaf_at(line, 4)?,
-        }),
-        b"copy_object" => Some(Step::CopyObject {
-            to: register(line, 2)?,
-            from: register(line, 3)?,
-            layout: register(line, 4)?,
-        }),
-        b"begin" => Some(Step::Begin {
-            object: register(line, 2)?,
-            initialised: truth(word(line, 3)?)?,
-        }),
-        _ => Some(Step::Set {
-            to: register(line, 2)?,
-            value: value(line)?,
-        }),
+    match word(line, 1).unwrap_or("").as_bytes() {
+        b"add" => sum(line),
+        b"check" => check(line),
+        b"sub" => sub(line),
+        b"load" => load(line),
+        b"store" => store(line),
+        b"copy_object" => copy_object(line),
+        b"begin" => begin(line),
+        _ => set(line),
     }
 }
 
