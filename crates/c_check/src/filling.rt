@@ -223,10 +223,12 @@ impl Filling {
                 return refuse(faults::INITIALISER, spot_of(e));
             }
             TypeKind::Array(_, Some(count)) => length < count,
-            _ => true,
+            _ => {
+                self.extent = length.saturating_add(1);
+                true
+            }
         };
         self.override_at(path, checker)?;
-        self.extent = self.extent.max(length.saturating_add(1));
         for (index, byte) in bytes.iter().enumerate() {
             self.add_byte(e, path, index, *byte, element, checker)?;
         }
