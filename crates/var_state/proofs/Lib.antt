@@ -3,3 +3,4 @@ pub mod Written
 pub mod Copying
 pub mod Closed
 pub mod Standing
+pub mod Ones

@@ -1,3 +1,7 @@
+ghost use Rattle.std.specs.Prelude.{◌≡◌, ℕ, ◌≤◌};
+ghost use Rattle.var_state.specs.Clusters.{is_one, size_of, weights};
+ghost use Rattle.var_state.specs.Grids.{greater, placed};
+
 use crate::grid::Grid;
 use crate::open::Open;
 use crate::range::Range;
@@ -52,7 +56,9 @@ impl Cluster {
     }
 
     /// Bounds the register at the second position less that at the first by c. False where no numbers are left.
-    pub(crate) fn tighten(&mut self, from: usize, to: usize, c: i128) -> bool {
+    pub(crate) fn tighten(&mut self, from: usize, to: usize, c: i128) -> bool
+        ensures size { size_of self.new ≡ size_of self.old }
+    {
         match self {
             Cluster::One(range) => return tighten_one(range, from, to, c),
             Cluster::Many(grid) => return grid.tighten(from, to, c),
@@ -60,7 +66,11 @@ impl Cluster {
     }
 
     /// Forgets a register, and bounds it by the range.
-    pub(crate) fn place(&mut self, position: usize, range: Range) {
+    #[tactic(auto, using(crate::proofs::Ones::place_one))]
+    pub(crate) fn place(&mut self, position: usize, range: Range)
+        ensures size { size_of self.new ≡ size_of self.old }
+        ensures value { 1 ≤ position → position ≤ size_of self.old → (p q : ℕ) → p ≤ size_of self.old → q ≤ size_of self.old → weights self.new p q ≡ placed position range.low range.high (weights self.old) p q }
+    {
         match self {
             Cluster::One(old) => *old = range,
             Cluster::Many(grid) => grid.place(position, range),
@@ -75,7 +85,10 @@ impl Cluster {
         }
     }
 
-    pub(crate) fn join(&mut self, other: &Cluster) {
+    pub(crate) fn join(&mut self, other: &Cluster)
+        ensures size { size_of self.new ≡ size_of self.old }
+        ensures value { size_of self.old ≡ size_of other.now → is_one self.old ≡ is_one other.now → (p q : ℕ) → p ≤ size_of self.old → q ≤ size_of self.old → weights self.new p q ≡ greater (weights self.old) (weights other.now) p q }
+    {
         match (self, other) {
             (Cluster::One(range), Cluster::One(more)) => *range = range.hull(*more),
             (Cluster::Many(grid), Cluster::Many(more)) => grid.join(more),
@@ -83,7 +96,10 @@ impl Cluster {
         }
     }
 
-    pub(crate) fn copy_from(&mut self, other: &Cluster) {
+    pub(crate) fn copy_from(&mut self, other: &Cluster)
+        ensures size { size_of self.new ≡ size_of self.old }
+        ensures value { size_of self.old ≡ size_of other.now → is_one self.old ≡ is_one other.now → (p q : ℕ) → p ≤ size_of self.old → q ≤ size_of self.old → weights self.new p q ≡ weights other.now p q }
+    {
         match (self, other) {
             (Cluster::One(range), Cluster::One(more)) => *range = *more,
             (Cluster::Many(grid), Cluster::Many(more)) => grid.copy_from(more),

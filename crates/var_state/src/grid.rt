@@ -1,5 +1,5 @@
-ghost use Rattle.std.specs.Prelude.{◌≡◌, ◌≤◌};
-ghost use Rattle.var_state.specs.Grids.{at, IsSound};
+ghost use Rattle.std.specs.Prelude.{◌≡◌, ℕ, ◌≤◌, true, false, pos, neg_ℤ, ◌+ℤ◌, ◌<ℤ◌};
+ghost use Rattle.var_state.specs.Grids.{at, IsSound, over, placed, greater};
 
 use crate::cells::{copied, read, zeros};
 use crate::changes;
@@ -61,7 +61,9 @@ impl Grid {
     }
 
     /// The bound of `v_j - v_i`; 0 where one of them is not there.
-    pub(crate) fn bound(&self, i: usize, j: usize) -> i128 {
+    pub(crate) fn bound(&self, i: usize, j: usize) -> i128
+        ensures value { i ≤ self.now.size → j ≤ self.now.size → result ≡ at self.now.cells i j }
+    {
         if self.size < i || self.size < j {
             return 0;
         }
@@ -69,7 +71,10 @@ impl Grid {
     }
 
     /// The least and the greatest number of a variable.
-    pub(crate) fn bounds(&self, v: usize) -> Range {
+    pub(crate) fn bounds(&self, v: usize) -> Range
+        ensures low { v ≤ self.now.size → result.low ≡ neg_ℤ (at self.now.cells v 0) }
+        ensures high { v ≤ self.now.size → result.high ≡ at self.now.cells 0 v }
+    {
         if self.size < v {
             return Range::all();
         }
@@ -77,7 +82,11 @@ impl Grid {
     }
 
     /// Bounds `v_j - v_i` by c. False where no numbers are left; the matrix is then as it was.
-    pub(crate) fn tighten(&mut self, i: usize, j: usize, c: i128) -> bool {
+    pub(crate) fn tighten(&mut self, i: usize, j: usize, c: i128) -> bool
+        ensures size { self.new.size ≡ self.old.size }
+        ensures value { i ≤ self.old.size → j ≤ self.old.size → result ≡ true → (p q : ℕ) → p ≤ self.old.size → q ≤ self.old.size → at self.new.cells p q ≡ over i j c (at self.old.cells) p q }
+        ensures empty { i ≤ self.old.size → j ≤ self.old.size → result ≡ false → (at self.old.cells j i +ℤ c) <ℤ pos 0 }
+    {
         if self.size < i || self.size < j {
             return true;
         }
@@ -85,7 +94,10 @@ impl Grid {
     }
 
     /// Forgets the variable v, and bounds it by the range.
-    pub(crate) fn place(&mut self, v: usize, range: Range) {
+    pub(crate) fn place(&mut self, v: usize, range: Range)
+        ensures size { self.new.size ≡ self.old.size }
+        ensures value { 1 ≤ v → v ≤ self.old.size → (p q : ℕ) → p ≤ self.old.size → q ≤ self.old.size → at self.new.cells p q ≡ placed v range.low range.high (at self.old.cells) p q }
+    {
         if v == 0 || self.size < v {
             return;
         }
@@ -101,7 +113,10 @@ impl Grid {
     }
 
     /// The greater of each two bounds.
-    pub(crate) fn join(&mut self, other: &Grid) {
+    pub(crate) fn join(&mut self, other: &Grid)
+        ensures size { self.new.size ≡ self.old.size }
+        ensures value { self.old.size ≡ other.now.size → (p q : ℕ) → p ≤ self.old.size → q ≤ self.old.size → at self.new.cells p q ≡ greater (at self.old.cells) (at other.now.cells) p q }
+    {
         if self.size != other.size {
             return;
         }
@@ -109,7 +124,10 @@ impl Grid {
     }
 
     /// The other's bounds.
-    pub(crate) fn copy_from(&mut self, other: &Grid) {
+    pub(crate) fn copy_from(&mut self, other: &Grid)
+        ensures size { self.new.size ≡ self.old.size }
+        ensures value { self.old.size ≡ other.now.size → (p q : ℕ) → p ≤ self.old.size → q ≤ self.old.size → at self.new.cells p q ≡ at other.now.cells p q }
+    {
         if self.size != other.size {
             return;
         }

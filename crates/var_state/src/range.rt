@@ -1,4 +1,5 @@
-ghost use Rattle.std.specs.Prelude.{◌≡◌, ◌^◌, ◌≤◌, ◌≤ℤ◌, neg_ℤ, pos, true, unsigned_abs};
+ghost use Rattle.std.specs.Prelude.{◌≡◌, ◌^◌, ◌≤◌, ◌≤ℤ◌, neg_ℤ, pos, true, unsigned_abs, ◌↔◌, ◌<ℤ◌, IsTrue, IfSome, IsNone};
+ghost use Rattle.std.specs.Int.{int_max, int_min};
 ghost use Rattle.intervals.specs.Intervals.{IsNear};
 
 use int_laws::difference;
@@ -32,7 +33,10 @@ impl Range {
     }
 
     /// The numbers from one end to the other, each moved to the nearest number that may stand there.
-    pub(crate) fn from_ends(low: i128, high: i128) -> Range {
+    pub(crate) fn from_ends(low: i128, high: i128) -> Range
+        ensures low { neg_ℤ (pos (2 ^ 80)) ≤ℤ low → low ≤ℤ pos (2 ^ 80) → result.low ≡ low }
+        ensures high { neg_ℤ (pos (2 ^ 80)) ≤ℤ low → low ≤ℤ high → high ≤ℤ pos (2 ^ 80) → result.high ≡ high }
+    {
         let low = low.clamp(-FAR, FAR);
         let high = high.clamp(low, FAR);
         Range { low, high }
@@ -48,7 +52,10 @@ impl Range {
     }
 
     /// What lies between the ends too, if anything does.
-    pub(crate) fn part(self, low: i128, high: i128) -> Option<Range> {
+    pub(crate) fn part(self, low: i128, high: i128) -> Option<Range>
+        ensures ends { IfSome result (λ r. (r.low ≡ int_max self.low low) × (r.high ≡ int_min self.high high)) }
+        ensures none { IsNone result ↔ (int_min self.high high <ℤ int_max self.low low) }
+    {
         let low = self.low.max(low);
         let high = self.high.min(high);
         if high < low {
@@ -58,11 +65,16 @@ impl Range {
     }
 
     /// The least range that has both.
-    pub(crate) fn hull(self, other: Range) -> Range {
+    pub(crate) fn hull(self, other: Range) -> Range
+        ensures low { result.low ≡ int_min self.low other.low }
+        ensures high { result.high ≡ int_max self.high other.high }
+    {
         Range::from_ends(self.low.min(other.low), self.high.max(other.high))
     }
 
-    pub(crate) fn lies_in(self, other: Range) -> bool {
+    pub(crate) fn lies_in(self, other: Range) -> bool
+        ensures within { IsTrue result ↔ ((other.low ≤ℤ self.low) × (self.high ≤ℤ other.high)) }
+    {
         other.low <= self.low && self.high <= other.high
     }
 
