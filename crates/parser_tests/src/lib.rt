@@ -1,0 +1,5 @@
+//! Tests of the cursor and of the parsers over it.
+#![tactic(auto)]
+
+#[cfg(test)]
+mod files;
