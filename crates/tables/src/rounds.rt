@@ -92,6 +92,12 @@ impl<B: Drop> Rounds<B> {
         self.lease.is_ended()
     }
 
+    pub(crate) fn tasks(&self) -> u32
+        ensures { result ≡ length self.now.machine.tasks }
+    {
+        self.lease.tasks()
+    }
+
     pub(crate) fn is_round_done(&self) -> bool
         ensures all { result ≡ true → AllDone self.now.machine.tasks }
         ensures some { result ≡ false → SomeNotDone self.now.machine.tasks }

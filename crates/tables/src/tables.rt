@@ -105,6 +105,13 @@ impl<D: Disk, W: Work> Tables<D, W> {
         self.rounds.round()
     }
 
+    /// How many tasks the round has.
+    pub fn tasks(&self) -> u32
+        ensures { result ≡ length (machine_of self.now).tasks }
+    {
+        self.rounds.tasks()
+    }
+
     /// Whether each task of the round is done.
     pub fn round_done(&self) -> bool
         ensures all { result ≡ true → AllDone (machine_of self.now).tasks }

@@ -5,11 +5,12 @@ ghost use Rattle.tables.specs.Sound.{IsSound, machine_of, journal_of};
 ghost use Rattle.tables.specs.Works.{IsNoMark};
 ghost use Rattle.worker_loop.specs.Left.{left};
 
+use crate::answers::stop_of;
 use lease_table::Claimed;
 use std::alloc::Global;
 use sv_base::NoMemory;
 use sv_outside::Disk;
-use tables::{Publication, Publish, Stop, Tables, Work};
+use tables::{Publication, Stop, Tables, Work};
 
 // How many tasks are computed before they are stored together.
 const BATCH: usize = 64;
@@ -59,19 +60,6 @@ fn some_computed<D: Disk, W: Work>(
         }
     }
     Ok(list)
-}
-
-// Why one of these was not stored, if one was not.
-fn stop_of(answers: &[Publish]) -> Option<Stop> {
-    for answer in answers {
-        match answer {
-            Publish::Stored | Publish::Lost { .. } => (),
-            Publish::Disk => return Some(Stop::Disk),
-            Publish::Full { size } => return Some(Stop::Full { size: *size }),
-            Publish::NoMemory => return Some(Stop::NoMemory),
-        }
-    }
-    None
 }
 
 // Does some tasks of the round, at least one of those that are left.
