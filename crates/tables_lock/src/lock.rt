@@ -158,3 +158,10 @@ impl<D: Disk, W: Work> Drop for Seat<D, W> {
         drop(seat);
     }
 }
+
+impl<D: Disk, W: Work> Drop for Lock<D, W> {
+    fn drop(self) {
+        let Self { table } = self;
+        drop(table);
+    }
+}
