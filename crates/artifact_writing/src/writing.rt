@@ -3,7 +3,7 @@ ghost use Rattle.core_ir.specs.BoundsFit.{ClustersFit};
 ghost use Rattle.core_ir.specs.Plain.{Clusters, lists_of, stored_of};
 ghost use Rattle.artifact_codec.specs.Demands.{meets};
 ghost use Rattle.artifact_codec.specs.Spelling.{spelling};
-ghost use Rattle.tables.specs.Works.{IsNoMark};
+ghost use Rattle.artifact_writing.specs.Marks.{IsNoMark};
 
 use crate::demands::{are_colours, are_constraints, are_sets};
 use crate::summaries::is_summary;

@@ -1,12 +1,17 @@
 // Artifacts of earlier rounds, decoded.
 
+use crate::artifacts::Artifacts;
 use artifact_codec::decode;
 use core_ir::{Artifact, Constraint, CoreProgram, Function, Solution, Stored};
 use std::alloc::Global;
 use sv_base::NoMemory;
-use tables::Shelf;
 
-fn stored(alloc: Global, shelf: &Shelf, round: u32, task: u32) -> Result<Option<Stored>, NoMemory> {
+fn stored(
+    alloc: Global,
+    shelf: &impl Artifacts,
+    round: u32,
+    task: u32,
+) -> Result<Option<Stored>, NoMemory> {
     match shelf.get(round, task) {
         Some(bytes) => decode(alloc, bytes),
         None => Ok(None),
@@ -15,7 +20,7 @@ fn stored(alloc: Global, shelf: &Shelf, round: u32, task: u32) -> Result<Option<
 
 fn summary(
     alloc: Global,
-    shelf: &Shelf,
+    shelf: &impl Artifacts,
     round: u32,
     task: u32,
 ) -> Result<Option<Artifact>, NoMemory> {
@@ -28,7 +33,7 @@ fn summary(
 /// Whether a summary says that it is not as in the round before. One that is missing does.
 pub(crate) fn summary_has_changed(
     alloc: Global,
-    shelf: &Shelf,
+    shelf: &impl Artifacts,
     round: u32,
     task: u32,
 ) -> Result<bool, NoMemory> {
@@ -41,7 +46,7 @@ pub(crate) fn summary_has_changed(
 fn add_constraints(
     alloc: Global,
     all: &mut Vec<Constraint>,
-    shelf: &Shelf,
+    shelf: &impl Artifacts,
     task: u32,
 ) -> Result<(), NoMemory> {
     match stored(alloc, shelf, 0, task)? {
@@ -56,7 +61,7 @@ fn add_constraints(
 /// The constraints of all functions.
 pub fn gathered_constraints(
     alloc: Global,
-    shelf: &Shelf,
+    shelf: &impl Artifacts,
     functions: u32,
 ) -> Result<Vec<Constraint>, NoMemory> {
     let mut all = Vec::new(alloc);
@@ -77,7 +82,7 @@ pub fn bases(alloc: Global, functions: &[Function]) -> Result<Vec<usize>, NoMemo
     Ok(bases)
 }
 
-fn sets(alloc: Global, shelf: &Shelf) -> Result<Vec<Vec<u32>>, NoMemory> {
+fn sets(alloc: Global, shelf: &impl Artifacts) -> Result<Vec<Vec<u32>>, NoMemory> {
     match stored(alloc, shelf, 1, 0)? {
         Some(Stored::Solved(Solution { sets })) => Ok(sets),
         _other => Ok(Vec::new(alloc)),
@@ -94,7 +99,11 @@ pub struct Solved {
 }
 
 impl Solved {
-    fn read(alloc: Global, shelf: &Shelf, functions: &[Function]) -> Result<Solved, NoMemory> {
+    fn read(
+        alloc: Global,
+        shelf: &impl Artifacts,
+        functions: &[Function],
+    ) -> Result<Solved, NoMemory> {
         Ok(Solved {
             sets: sets(alloc, shelf)?,
             bases: bases(alloc, functions)?,
@@ -121,7 +130,7 @@ fn alone(alloc: Global, registers: usize) -> Result<Vec<Vec<u32>>, NoMemory> {
 
 fn clusters(
     alloc: Global,
-    shelf: &Shelf,
+    shelf: &impl Artifacts,
     f: &Function,
     task: u32,
 ) -> Result<Vec<Vec<u32>>, NoMemory> {
@@ -145,7 +154,7 @@ impl Kept {
     /// For a round of summaries or colours, of which `first` is the first.
     pub fn read(
         alloc: Global,
-        shelf: &Shelf,
+        shelf: &impl Artifacts,
         core: &CoreProgram,
         round: u32,
         first: u32,

@@ -3,12 +3,14 @@
 #![tactic(auto)]
 
 mod access;
+mod artifacts;
 mod kept;
 mod links;
 mod sharing;
 mod spreading;
 mod stage;
 
+pub use artifacts::Artifacts;
 pub use kept::{Kept, Solved, bases, gathered_constraints};
 pub use links::Links;
 pub use sharing::{Contribution, contributions, leaf_intervals};

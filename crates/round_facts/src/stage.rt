@@ -1,9 +1,9 @@
 // Which stage of the analysis a round is.
 
+use crate::artifacts::Artifacts;
 use crate::kept::summary_has_changed;
 use std::alloc::Global;
 use sv_base::NoMemory;
-use tables::Shelf;
 
 /// The stages in their order. Each has a task for each function, but `Solution` one alone.
 #[derive(Clone, Copy, Debug, PartialEq, Eq)]
@@ -27,7 +27,12 @@ pub const FIRST_RISING: u32 = 3;
 const FALLING: u32 = 4;
 
 // Whether all summaries of the round say that they are as in the round before.
-fn has_settled(alloc: Global, shelf: &Shelf, round: u32, functions: u32) -> Result<bool, NoMemory> {
+fn has_settled(
+    alloc: Global,
+    shelf: &impl Artifacts,
+    round: u32,
+    functions: u32,
+) -> Result<bool, NoMemory> {
     for f in 0..functions {
         if summary_has_changed(alloc, shelf, round, f)? {
             return Ok(false);
@@ -40,7 +45,7 @@ fn has_settled(alloc: Global, shelf: &Shelf, round: u32, functions: u32) -> Resu
 /// allows. `round` is the one that is planned.
 pub fn closing_round(
     alloc: Global,
-    shelf: &Shelf,
+    shelf: &impl Artifacts,
     round: u32,
     functions: u32,
     limit: u32,
@@ -83,7 +88,7 @@ fn later_stage(round: u32, closing: u32) -> Stage {
 /// The stage of a round, by the rounds before it. At most `limit` rounds of summaries rise.
 pub fn stage_of(
     alloc: Global,
-    shelf: &Shelf,
+    shelf: &impl Artifacts,
     round: u32,
     functions: u32,
     limit: u32,
