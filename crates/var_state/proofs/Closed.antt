@@ -170,3 +170,10 @@ zero_sound n d each = record {
   closed = record { zero = λ i ii. each i i; triangle = λ i j k ii jj kk. omega (arith, ints, each i j, each i k, each k j) };
   ranged = record { above = λ i ii. omega (arith, ints, each 0 i); below = λ i ii. omega (arith, ints, each i 0) };
 }
+
+-- changes of bounds that are the same inside
+pub over_cong : (n : ℕ) (d e : Weights) → ((i j : ℕ) → i ≤ n → j ≤ n → d i j ≡ e i j) → (i j : ℕ) (c : ℤ) → i ≤ n → j ≤ n → (p q : ℕ) → p ≤ n → q ≤ n → over i j c d p q ≡ over i j c e p q
+over_cong n d e each i j c ii jj p q pp qq = rw (each p q pp qq, each p i pp ii, each j q jj qq) refl
+
+pub moved_cong : (n : ℕ) (d e : Weights) → ((i j : ℕ) → i ≤ n → j ≤ n → d i j ≡ e i j) → (v f : ℕ) (c : ℤ) → f ≤ n → (p q : ℕ) → p ≤ n → q ≤ n → moved v f c d p q ≡ moved v f c e p q
+moved_cong n d e each v f c ff p q pp qq = rw (each f q ff qq, each p f pp ff, each p q pp qq) refl

@@ -216,6 +216,7 @@ pub(crate) fn set_sum(
     requires variables { (1 ≤ to) × (to ≤ n) × (from ≤ n) }
     ensures room { HasRoom n cells.new.items }
     ensures sound { IsSound n (at cells.new.items) }
+    ensures value { result ≡ true → (p q : ℕ) → p ≤ n → q ≤ n → at cells.new.items p q ≡ moved to from c (over from 0 (c -ℤ range.low) (over 0 from (range.high -ℤ c) (at cells.old.items))) p q }
 {
     if !bounds_of(cells, n, from).can_reach(c, range) {
         return false;

@@ -1,4 +1,4 @@
-ghost use Rattle.std.specs.Prelude.{◌≡◌, ℕ, ◌≤◌};
+ghost use Rattle.std.specs.Prelude.{◌≡◌, ℕ, ◌≤◌, neg_ℤ};
 ghost use Rattle.var_state.specs.Clusters.{is_one, size_of, weights};
 ghost use Rattle.var_state.specs.Grids.{greater, placed};
 
@@ -40,7 +40,11 @@ impl Cluster {
         }
     }
 
-    pub(crate) fn bounds(&self, position: usize) -> Range {
+    #[tactic(auto, using(crate::proofs::Ones::low_one, crate::proofs::Ones::high_one))]
+    pub(crate) fn bounds(&self, position: usize) -> Range
+        ensures low { 1 ≤ position → position ≤ size_of self.now → result.low ≡ neg_ℤ (weights self.now position 0) }
+        ensures high { 1 ≤ position → position ≤ size_of self.now → result.high ≡ weights self.now 0 position }
+    {
         match self {
             Cluster::One(range) => return *range,
             Cluster::Many(grid) => return grid.bounds(position),
@@ -48,7 +52,10 @@ impl Cluster {
     }
 
     /// The bound of the register at the second position less that at the first.
-    pub(crate) fn difference(&self, from: usize, to: usize) -> i128 {
+    #[tactic(auto, using(crate::proofs::Ones::same_one))]
+    pub(crate) fn difference(&self, from: usize, to: usize) -> i128
+        ensures value { 1 ≤ from → 1 ≤ to → from ≤ size_of self.now → to ≤ size_of self.now → result ≡ weights self.now from to }
+    {
         match self {
             Cluster::One(_) => return 0,
             Cluster::Many(grid) => return grid.bound(from, to),

@@ -1,5 +1,5 @@
-ghost use Rattle.std.specs.Prelude.{◌≡◌, ℕ, ◌≤◌, true, false, pos, neg_ℤ, ◌+ℤ◌, ◌<ℤ◌};
-ghost use Rattle.var_state.specs.Grids.{at, IsSound, over, placed, greater};
+ghost use Rattle.std.specs.Prelude.{◌≡◌, ℕ, ◌≤◌, true, false, pos, neg_ℤ, ◌+ℤ◌, ◌-ℤ◌, ◌<ℤ◌};
+ghost use Rattle.var_state.specs.Grids.{at, IsSound, greater, moved, over, placed};
 
 use crate::cells::{copied, read, zeros};
 use crate::changes;
@@ -105,7 +105,10 @@ impl Grid {
     }
 
     /// The variable `to` becomes `from + c`, cut to the range; the two may be one. False where no numbers are left.
-    pub(crate) fn set_sum(&mut self, to: usize, from: usize, c: i128, range: Range) -> bool {
+    pub(crate) fn set_sum(&mut self, to: usize, from: usize, c: i128, range: Range) -> bool
+        ensures size { self.new.size ≡ self.old.size }
+        ensures value { 1 ≤ to → to ≤ self.old.size → from ≤ self.old.size → result ≡ true → (p q : ℕ) → p ≤ self.old.size → q ≤ self.old.size → at self.new.cells p q ≡ moved to from c (over from 0 (c -ℤ range.low) (over 0 from (range.high -ℤ c) (at self.old.cells))) p q }
+    {
         if to == 0 || self.size < to || self.size < from {
             return true;
         }
