@@ -1,7 +1,7 @@
-use Rattle.std.proofs.Common.{◌∙◌, refl, arith, ◌≡◌, ℕ, ◌≤◌, ℤ, pos, ◌+ℤ◌, ◌-ℤ◌, to_z, of_z}
+use Rattle.std.proofs.Common.{◌∙◌, refl, arith, ◌≡◌, ℕ, ◌≤◌, ◌-ℤ◌}
 use mir.Syntax.{w128}
 use Rattle.std.proofs.lemmas.Int.{ints, clamps, to_z-of_z}
-use Rattle.var_state.specs.Grids.{at, over, moved}
+use Rattle.var_state.specs.Grids.{at, over}
 use Rattle.var_state.proofs.Closed.{over_cong, moved_cong}
 use Rattle.var_state.proofs.changes.set_sum.Goals as goal
 
