@@ -1,2 +1,3 @@
-/* No comment is accepted yet. */
+/* Floating types are outside of the language. */
+static float speed;
 int main(void){ return 0; }

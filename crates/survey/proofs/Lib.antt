@@ -1,3 +1,4 @@
-pub mod Loading
-pub mod Soundness
-pub mod Rows
+mod Soundness
+mod Loads
+mod Rows
+mod OneFile

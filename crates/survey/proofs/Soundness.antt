@@ -9,11 +9,11 @@ use lib.Signed.{le_z_yes}
 use lib.Dec.{le→leb}
 use Rattle.sv_base.specs.declared.colour.Colour.{Colour}
 use Rattle.sv_base.specs.declared.colour.Colour.TheVariants as colours
-use Rattle.c_front.specs.declared.program.Array.{Array}
-use Rattle.c_front.specs.declared.program.Store.{Store}
-use Rattle.c_front.specs.declared.program.Program.{Program}
-use Rattle.c_front.specs.Objects.{Shape, Int, ArrayOf, size_of, Leaf, Value, Number, Pointer, Object, State, region_length, with_leaf, with_written, zeros, start}
-use Rattle.c_front.specs.Runs.{Visit, IsInside, End, Finished, Outside, Left, Goes, Ends, Part, goes, after, next, then_do, dereference, written, put_objects, write, element, store, stores, calls, end_of, run}
+use Rattle.first_form.specs.declared.program.Array.{Array}
+use Rattle.first_form.specs.declared.program.Store.{Store}
+use Rattle.first_form.specs.declared.program.Program.{Program}
+use Rattle.first_form.specs.Objects.{Shape, Int, ArrayOf, size_of, Leaf, Value, Number, Pointer, Object, State, region_length, with_leaf, with_written, zeros, start}
+use Rattle.first_form.specs.Runs.{Visit, IsInside, End, Finished, Outside, Left, Goes, Ends, Part, goes, after, next, then_do, dereference, written, put_objects, write, element, store, stores, calls, end_of, run}
 use Rattle.report.specs.declared.line.Line.{Line}
 use Rattle.survey.specs.Colours as c
 use Rattle.survey.specs.Colours.{size_at, line_of, lines_from, lines_of}

@@ -4,9 +4,9 @@ use Rattle.std.specs.Prelude.{ℕ, slice_get, Bool, nat_lt, if◌then◌else◌,
 use Rattle.std.specs.Option.{option_map_or}
 use Rattle.sv_base.specs.declared.colour.Colour.{Colour}
 use Rattle.sv_base.specs.declared.colour.Colour.TheVariants as colours
-use Rattle.c_front.specs.declared.program.Array.{Array}
-use Rattle.c_front.specs.declared.program.Store.{Store}
-use Rattle.c_front.specs.declared.program.Program.{Program}
+use Rattle.first_form.specs.declared.program.Array.{Array}
+use Rattle.first_form.specs.declared.program.Store.{Store}
+use Rattle.first_form.specs.declared.program.Program.{Program}
 use Rattle.report.specs.declared.line.Line.{Line}
 use Rattle.report.specs.Report.{report_text, report_status}
 

@@ -1,106 +1,114 @@
 -- What the top call promises: the report of what was loaded, and the cause of every other answer. Here `told` is what
--- the sources tell of their content, `file` the name that the words give, and `before` and `now` what a sink tells that
--- it has taken.
-use Rattle.std.specs.Prelude.{◌≡◌, ◌⊎◌, ℕ, ◌<◌, ◌≤◌, List, [], ◌∷◌, ◌++◌, codes, length, take, Option, Some, None, IfSome}
-use Rattle.sv_base.specs.declared.ids.FileId.{FileId}
+-- the sources tell of their content, `asked` what the words ask for, and `before` and `now` what a sink tells that it has
+-- taken.
+use Rattle.std.specs.Prelude.{◌≡◌, ◌⊎◌, ℕ, zero, suc, ◌+◌, ◌<◌, ◌≤◌, List, [], ◌∷◌, ◌++◌, codes, length, take, slice_get, Option, Some, None, IsSome}
 use Rattle.sv_base.specs.declared.fault.SourceFault.{SourceFault}
-use Rattle.sv_base.specs.declared.fault.FaultKind.TheVariants.{Limit}
+use Rattle.sv_base.specs.declared.limits.TheConstants.{FILE_BYTES}
+use Rattle.sv_base.specs.Faults.{IsListed}
 use Rattle.sv_outside.specs.Outside.{Files, Rose, counted, with_more}
-use Rattle.c_front.specs.declared.program.Program.{Program}
-use Rattle.c_front.specs.Form.{IsForm}
-use Rattle.c_front.specs.Front.{not_of_form}
+use Rattle.first_form.specs.declared.program.Program.{Program}
+use Rattle.first_form.specs.Form.{IsForm}
 use Rattle.report.specs.declared.line.Line.{Line}
-use Rattle.report.specs.Report.{report_text}
+use Rattle.report.specs.Report.{report_text, report_status}
 use Rattle.report.specs.Faults.{fault_text}
+use Rattle.survey.specs.Words.{Asked, only_file}
 use Rattle.survey.specs.Colours.{report, status}
 use Rattle.survey.specs.Sound.{IsSound}
 
--- a file of more bytes is refused
-abbrev pub limit : ℕ
-limit = 16777216
+-- the text of a report: a line for each site, one for each assumed function, and the totals; and its status
+pub record IsReport (text : List ℕ) (answer : ℕ) : Type 0 where
+  pub lines : List Line
+  pub assumed : List (List ℕ)
+  pub is : text ≡ report_text lines assumed
+  pub answers : answer ≡ report_status lines
 
--- the number of the one file's name
-abbrev pub only_file : FileId
-only_file = record { 0 = 0 }
+-- the line of a fault that stands in the table of faults, in a file that has a name
+pub record IsFaultLine (text : List ℕ) : Type 0 where
+  pub fault : SourceFault
+  pub names : List (List ℕ)
+  pub listed : IsListed fault.kind
+  pub named : fault.place.file.0 < length names
+  pub is : text ≡ fault_text fault names
 
--- these bytes stand under the name, where the sources tell what they hold
-abbrev pub Stands : Option Files → List ℕ → List ℕ → Type 0
-Stands told name bytes = IfSome told (λ files. files name ≡ Some bytes)
-
--- the file that the words name is this program
-pub record Reads (told : Option Files) (file : Option (List ℕ)) (name : List ℕ) (program : Program) : Type 0 where
+-- the sources tell that the words ask for one file from `main` alone, and that it is this program of the first form
+pub record IsFirstForm (told : Option Files) (asked : Option Asked) (name : List ℕ) (program : Program) : Type 0 where
+  pub files : Files
+  pub is_told : told ≡ Some files
+  pub what : Asked
+  pub asks : asked ≡ Some what
+  pub named : only_file what ≡ Some name
   pub bytes : List ℕ
-  pub named : file ≡ Some name
-  pub stands : Stands told name bytes
-  pub short : length bytes ≤ limit
+  pub found : files name ≡ Some bytes
+  pub short : length bytes ≤ FILE_BYTES
   pub form : IsForm bytes program
 
--- the sink gained the program's report, and the status is the report's
-pub record Reports (told : Option Files) (file : Option (List ℕ)) (before now : Option (List ℕ)) (answer : ℕ) : Type 0 where
-  pub name : List ℕ
-  pub program : Program
-  pub reads : Reads told file name program
-  pub gained : now ≡ with_more before (report name program)
-  pub answers : answer ≡ status name program
+-- the sink gained a report with this status
+pub record Reports (before now : Option (List ℕ)) (answer : ℕ) : Type 0 where
+  pub text : List ℕ
+  pub report : IsReport text answer
+  pub gained : now ≡ with_more before text
 
 -- the sink gained the text of lines whose colours are true of every run of the program
-pub record ReportsSound (told : Option Files) (file : Option (List ℕ)) (before now : Option (List ℕ)) : Type 0 where
-  pub name : List ℕ
-  pub program : Program
+pub record ReportsSound (program : Program) (before now : Option (List ℕ)) : Type 0 where
   pub lines : List Line
-  pub reads : Reads told file name program
   pub gained : now ≡ with_more before (report_text lines [])
   pub sound : IsSound program lines
 
--- the sink gained the first bytes of the program's report
-pub record CutsOff (told : Option Files) (file : Option (List ℕ)) (before now : Option (List ℕ)) : Type 0 where
-  pub name : List ℕ
-  pub program : Program
-  pub reads : Reads told file name program
+-- the sink gained the first bytes of a report
+pub record CutsOff (before now : Option (List ℕ)) : Type 0 where
+  pub text : List ℕ
+  pub answer : ℕ
+  pub report : IsReport text answer
   pub count : ℕ
-  pub within : count ≤ length (report name program)
-  pub gained : now ≡ with_more before (take count (report name program))
+  pub within : count ≤ length text
+  pub gained : now ≡ with_more before (take count text)
 
--- Limit 1, of the file as a whole
-abbrev pub too_large : SourceFault
-too_large = record { kind = Limit 1; place = record { file = only_file; line = 0; col = 0 } }
+-- the sink gained the first bytes of this text
+abbrev pub GainsFront : Option (List ℕ) → Option (List ℕ) → List ℕ → Type 0
+GainsFront before now text = (count : ℕ) × (count ≤ length text) × (now ≡ with_more before (take count text))
 
--- a file of these bytes is refused for this fault
-abbrev pub IsFaultOf : List ℕ → SourceFault → Type 0
-IsFaultOf bytes fault = ((limit < length bytes) × (fault ≡ too_large)) ⊎ ((length bytes ≤ limit) × ((p : Program) → ¬ IsForm bytes p) × (fault ≡ not_of_form only_file))
-
--- the file that the words name is refused for this fault
-pub record Refuses (told : Option Files) (file : Option (List ℕ)) (fault : SourceFault) : Type 0 where
-  pub name : List ℕ
-  pub named : file ≡ Some name
-  pub one_of : (fault ≡ too_large) ⊎ (fault ≡ not_of_form only_file)
-  pub cause : IfSome told (λ files. (bytes : List ℕ) × (files name ≡ Some bytes) × IsFaultOf bytes fault)
-
--- what stands under the name that the words give is to be refused
-pub record MustRefuse (told : Option Files) (file : Option (List ℕ)) : Type 0 where
-  pub files : Files
-  pub name : List ℕ
-  pub bytes : List ℕ
-  pub is_told : told ≡ Some files
-  pub named : file ≡ Some name
-  pub found : files name ≡ Some bytes
-  pub bad : (limit < length bytes) ⊎ ((p : Program) → ¬ IsForm bytes p)
-
--- the sources tell that this program stands under the name that the words give
-pub record Accepts (told : Option Files) (file : Option (List ℕ)) (name : List ℕ) (program : Program) : Type 0 where
-  pub files : Files
-  pub is_told : told ≡ Some files
-  pub reads : Reads told file name program
-
--- the report of this program, and its status
+-- the report of this program of the first form, and its status
 pub record Gives (name : List ℕ) (program : Program) (before now : Option (List ℕ)) (answer : ℕ) : Type 0 where
   pub answers : answer ≡ status name program
   pub gained : now ≡ with_more before (report name program)
 
--- the one load of an accepted command was counted, and no other; memory may run out before it
-abbrev pub Loads : Option (List ℕ) → ℕ → ℕ → ℕ → Type 0
+-- the sources tell that a file that the words ask for has more bytes than a file may have
+pub record IsTooLarge (told : Option Files) (asked : Option Asked) : Type 0 where
+  pub files : Files
+  pub is_told : told ≡ Some files
+  pub what : Asked
+  pub asks : asked ≡ Some what
+  pub place : ℕ
+  pub name : List ℕ
+  pub named : slice_get what.files place ≡ Some name
+  pub bytes : List ℕ
+  pub found : files name ≡ Some bytes
+  pub long : FILE_BYTES < length bytes
+
+-- the count of loads after so many more
+abbrev pub loads_after : ℕ → ℕ → ℕ
+loads_after zero before = before
+loads_after (suc n) before = counted (loads_after n before)
+
+-- so many of the files were loaded, all of them before a report is made
+pub record LoadsSome (a : Asked) (answer before now : ℕ) : Type 0 where
+  pub count : ℕ
+  pub within : count ≤ length a.files
+  pub is : now ≡ loads_after count before
+  pub whole : (answer ≡ 0) ⊎ ((answer ≡ 1) ⊎ (answer ≡ 7)) → count ≡ length a.files
+
+-- the loads that a call counts
+abbrev pub Loads : Option Asked → ℕ → ℕ → ℕ → Type 0
 Loads None answer before now = now ≡ before
-Loads (Some name) answer before now = (now ≡ counted before) ⊎ ((answer ≡ 8) × (now ≡ before))
+Loads (Some a) answer before now = LoadsSome a answer before now
+
+-- the last load that was counted is that of the file of this name
+pub record LoadedLast (asked : Option Asked) (name : List ℕ) (before now : ℕ) : Type 0 where
+  pub what : Asked
+  pub asks : asked ≡ Some what
+  pub count : ℕ
+  pub named : slice_get what.files count ≡ Some name
+  pub is : now ≡ counted (loads_after count before)
 
 -- a call answers one of these
 abbrev pub IsStatus : ℕ → Type 0
@@ -132,10 +140,10 @@ pub record Tells (before now : Option (List ℕ)) (faults_before faults_now refu
   pub whole : ¬ (Rose faults_before faults_now) → ¬ (Rose refusals_before refusals_now) → count ≡ length text
 
 -- the text of each status was told
-pub record Complains (told : Option Files) (file : Option (List ℕ)) (answer : ℕ) (Told : List ℕ → Type 0) : Type 0 where
+pub record Complains (asked : Option Asked) (loads_before loads_now : ℕ) (answer : ℕ) (Told : List ℕ → Type 0) : Type 0 where
   pub nothing : IsReported answer → Told []
   pub usage : answer ≡ 2 → Told usage_text
-  pub refusal : answer ≡ 3 → (fault : SourceFault) × (r : Refuses told file fault) × Told (fault_text fault (r.name ∷ []))
-  pub unread : answer ≡ 4 → (name : List ℕ) × (file ≡ Some name) × Told (cannot_read_text name)
+  pub refusal : answer ≡ 3 → (text : List ℕ) × (line : IsFaultLine text) × Told text
+  pub unread : answer ≡ 4 → (name : List ℕ) × (last : LoadedLast asked name loads_before loads_now) × Told (cannot_read_text name)
   pub unwritten : answer ≡ 7 → Told not_written_text
   pub memory : answer ≡ 8 → Told no_memory_text

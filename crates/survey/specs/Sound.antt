@@ -4,8 +4,8 @@ use Rattle.std.specs.Option.{option_map}
 use Rattle.std.specs.List.{AllByRecursion}
 use Rattle.sv_base.specs.declared.colour.Colour.{Colour}
 use Rattle.sv_base.specs.declared.colour.Colour.TheVariants as colours
-use Rattle.c_front.specs.declared.program.Program.{Program}
-use Rattle.c_front.specs.Runs.{Visit, IsInside, End, Finished, Spent, Outside, Undefined, BadPointer, NoLeaf, Run, run}
+use Rattle.first_form.specs.declared.program.Program.{Program}
+use Rattle.first_form.specs.Runs.{Visit, IsInside, End, Finished, Spent, Outside, Undefined, BadPointer, NoLeaf, Run, run}
 use Rattle.report.specs.declared.line.Line.{Line}
 
 -- the colour that the lines give a site; they are in the order of the sites

@@ -1,7 +1,7 @@
 ghost use Rattle.std.specs.Prelude.{◌≡◌, codes, IfOk};
 ghost use Rattle.survey.specs.Colours.{size_at, is_inside, line_of, lines_of};
 
-use c_front::{Array, Program, Store};
+use first_form::{Array, Program, Store};
 use report::Line;
 use sqlite_items::{Items, at};
 use std::alloc::{AllocError, Global};

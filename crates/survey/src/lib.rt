@@ -1,9 +1,14 @@
-//! The checker: it reads the words of a command line, loads the file, and puts the report.
+//! The checker: it reads the words of a command line, loads the files, and puts the report.
 #![tactic(auto)]
 
-mod check;
+mod answer;
+mod answering;
+mod asked;
 mod colours;
 mod ending;
+mod first;
+mod general;
+mod loading;
 mod telling;
 mod top;
 mod words;

@@ -1,5 +1,0 @@
-use Rattle.c_front.proofs.Both.{one_program}
-use Rattle.c_front.proofs.laws.form_is_unique.Goals as goal
-
-pub returns : goal.returns
-returns c = λ bytes some other f g. one_program bytes some other f g

@@ -1,5 +1,0 @@
-use Rattle.c_front.proofs.Unique.{unique}
-use Rattle.c_front.proofs.laws.tokens_are_unique.Goals as goal
-
-pub returns : goal.returns
-returns c = λ bytes some others h k. unique some others 1 1 bytes h k
