@@ -4,7 +4,7 @@ use Rattle.std.specs.Prelude.{codes, decimal}
 use Rattle.std.specs.Str.{all_ascii_digits}
 use Rattle.std.proofs.lemmas.Bool.{and_parts}
 use Rattle.std.proofs.lemmas.Fmt.{digits_decimal, decimal_nonempty}
-use Rattle.first_form.specs.Bytes.{is_digit}
+use Rattle.c_lexer.specs.Bytes.{is_digit}
 use Rattle.first_form.specs.Pieces.{Piece}
 use Rattle.first_form.specs.Scan.{◌>>=◌, pieces_from}
 use Rattle.first_form.specs.Cuts.{AllAre, IsToken, Cuts}

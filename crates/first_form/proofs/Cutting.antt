@@ -4,7 +4,8 @@ use Rattle.std.specs.List.{prefix_len}
 use Rattle.std.proofs.lemmas.List.{take_at, drop_at, take-append-drop, length-take-le, append-nil}
 use Rattle.std.proofs.lemmas.List.Sums.{prefix_len-le-length}
 use Rattle.std.proofs.lemmas.Bool.{cases_Bool, cases_eq, eq-eqb, ne_eqb, and_cases, and_left, and_right, eqb-false}
-use Rattle.first_form.specs.Bytes.{is_digit, is_nondigit, is_word_byte, is_number_byte, is_mark}
+use Rattle.c_lexer.specs.Bytes.{is_digit, is_nondigit, is_word_byte, is_number_byte}
+use Rattle.first_form.specs.Marks.{is_mark}
 use Rattle.first_form.specs.Pieces.{Piece}
 use Rattle.first_form.specs.Scan.{piece_len, begins_with, put_first, pieces_from}
 use Rattle.first_form.specs.Cuts.{AllAre, IsLongest, AllBlank, line_after, col_after, Cuts}

@@ -6,7 +6,8 @@ use Rattle.std.proofs.lemmas.List.{take_at}
 use Rattle.std.proofs.lemmas.Slice.Eq.{bytes_eq-Decides}
 use Rattle.std.proofs.lemmas.Bool.{cases_Bool, cases_lt, or_cases, or_left, or_right, and_parts, not-true, eqb-true, eq-eqb, false≢true}
 use Rattle.std.proofs.lemmas.Bool.Decides.{nat_tests}
-use Rattle.first_form.specs.Bytes.{is_digit, is_nondigit, is_word_byte, is_number_byte, is_exponent, is_mark}
+use Rattle.c_lexer.specs.Bytes.{is_digit, is_nondigit, is_word_byte, is_number_byte, is_exponent}
+use Rattle.first_form.specs.Marks.{is_mark}
 use Rattle.first_form.specs.Cuts.{AllAre, GoesOn, punctuators, is_punctuator, IsToken, IsLongest}
 
 -- what follows does not begin with such a byte

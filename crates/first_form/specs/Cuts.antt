@@ -3,7 +3,7 @@
 use Rattle.std.specs.Prelude.{◌≡◌, ◌⊎◌, ℕ, ◌+◌, ◌≤◌, Bool, true, ◌==◌, if◌then◌else◌, List, [], ◌∷◌, ◌++◌, length, take, codes}
 use Rattle.std.specs.List.{list_any}
 use Rattle.std.specs.Str.{bytes_eq}
-use Rattle.first_form.specs.Bytes.{is_digit, is_nondigit, is_word_byte, is_number_byte, is_sign, is_exponent}
+use Rattle.c_lexer.specs.Bytes.{is_digit, is_nondigit, is_word_byte, is_number_byte, is_sign, is_exponent}
 use Rattle.first_form.specs.Pieces.{Piece}
 
 abbrev pub AllAre : (ℕ → Bool) → List ℕ → Type 0

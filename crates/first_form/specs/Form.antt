@@ -1,21 +1,15 @@
 -- The one form of file that is accepted so far, as a grammar over its tokens, apart from how it is read.
-use Rattle.std.specs.Prelude.{◌≡◌, ◌≢◌, ℕ, ◌<◌, ◌≤◌, Bool, true, false, List, [], ◌∷◌, ◌++◌, codes, decimal, drop, map, position, Some, AllPairs}
+use Rattle.std.specs.Prelude.{◌≡◌, ◌≢◌, ℕ, ◌<◌, ◌≤◌, Bool, true, false, ◌||◌, List, [], ◌∷◌, ◌++◌, codes, decimal, drop, map, position, Some, AllPairs}
+use Rattle.std.specs.Option.{is_some}
 use Rattle.std.specs.List.{list_any}
 use Rattle.std.specs.Str.{bytes_eq}
-use Rattle.first_form.specs.Bytes.{is_nondigit}
+use Rattle.c_syntax.specs.Keywords.{keyword_number}
+use Rattle.c_lexer.specs.Bytes.{is_nondigit}
 use Rattle.first_form.specs.Pieces.{Piece}
 use Rattle.first_form.specs.Cuts.{Cuts}
 use Rattle.first_form.specs.declared.program.Array.{Array}
 use Rattle.first_form.specs.declared.program.Store.{Store}
 use Rattle.first_form.specs.declared.program.Program.{Program}
-
--- 6.4.1: the keywords
-abbrev pub keywords : List (List ℕ)
-keywords = codes "auto" ∷ codes "break" ∷ codes "case" ∷ codes "char" ∷ codes "const" ∷ codes "continue" ∷ codes "default" ∷ codes "do"
-    ∷ codes "double" ∷ codes "else" ∷ codes "enum" ∷ codes "extern" ∷ codes "float" ∷ codes "for" ∷ codes "goto" ∷ codes "if" ∷ codes "inline"
-    ∷ codes "int" ∷ codes "long" ∷ codes "register" ∷ codes "restrict" ∷ codes "return" ∷ codes "short" ∷ codes "signed" ∷ codes "sizeof"
-    ∷ codes "static" ∷ codes "struct" ∷ codes "switch" ∷ codes "typedef" ∷ codes "union" ∷ codes "unsigned" ∷ codes "void" ∷ codes "volatile"
-    ∷ codes "while" ∷ codes "_Bool" ∷ codes "_Complex" ∷ codes "_Imaginary" ∷ []
 
 -- words that GCC gives a meaning of its own
 abbrev pub gnu_words : List (List ℕ)
@@ -23,9 +17,9 @@ gnu_words = codes "__attribute__" ∷ codes "__attribute" ∷ codes "__extension
     ∷ codes "__inline__" ∷ codes "__restrict" ∷ codes "__restrict__" ∷ codes "__const" ∷ codes "__volatile__" ∷ codes "__signed__"
     ∷ codes "__typeof__" ∷ codes "__builtin_va_list" ∷ []
 
--- a word that no array has as its name
+-- a word that no array has as its name: a keyword, one of GCC's, or `main`
 abbrev pub is_reserved : List ℕ → Bool
-is_reserved text = list_any (bytes_eq text) (keywords ++ gnu_words ++ codes "main" ∷ [])
+is_reserved text = is_some (keyword_number text) || list_any (bytes_eq text) (gnu_words ++ codes "main" ∷ [])
 
 abbrev pub begins_word : List ℕ → Bool
 begins_word [] = false

@@ -2,7 +2,8 @@
 use Rattle.std.specs.Prelude.{ℕ, zero, suc, ◌+◌, ◌-◌, Bool, false, ◌&&◌, ◌==◌, if◌then◌else◌, List, [], ◌∷◌, take, Option, Some, None}
 use Rattle.std.specs.Option.{option_map}
 use Rattle.std.specs.List.{prefix_len}
-use Rattle.first_form.specs.Bytes.{is_digit, is_nondigit, is_word_byte, is_number_byte, is_mark}
+use Rattle.c_lexer.specs.Bytes.{is_digit, is_nondigit, is_word_byte, is_number_byte}
+use Rattle.first_form.specs.Marks.{is_mark}
 use Rattle.first_form.specs.Pieces.{Piece}
 
 abbrev pub begins_with : ℕ → List ℕ → Bool

@@ -1,6 +1,6 @@
 use Rattle.std.proofs.Common.{◌≡◌, ◌+◌, drop}
 use Rattle.std.specs.List.{prefix_len}
-use Rattle.first_form.specs.Bytes.{is_word_byte}
+use Rattle.c_lexer.specs.Bytes.{is_word_byte}
 use Rattle.first_form.proofs.bytes.word_len.Given as goal
 
 abbrev pub invariant-loop-i : goal.invariant-loop-i
