@@ -6,9 +6,9 @@ use Rattle.std.proofs.lemmas.Bool.{cases_lt}
 use Rattle.core_ir.specs.Lists.{has}
 use Rattle.artifact_codec.specs.declared.window.Window.{Window}
 use Rattle.artifact_codec.specs.Demands.{are_distinct}
-use Rattle.artifact_codec.specs.Reading.{◌>>=◌, counted_at, numbers_at}
-use Rattle.artifact_codec.specs.Checking.{registers_distinct}
-use Rattle.artifact_codec.specs.Windows.{mark_all, is_once, IsBlank, registers, IsBefore, IsAbove, Known, distinct_registers}
+use Rattle.artifact_codec.specs.computed.Reading.{◌>>=◌, counted_at, numbers_at}
+use Rattle.artifact_codec.specs.computed.Checking.{registers_distinct}
+use Rattle.artifact_codec.specs.computed.Windows.{mark_all, is_once, IsBlank, registers, IsBefore, IsAbove, Known, distinct_registers}
 use Rattle.artifact_codec.proofs.Once.{all_once, distinct_once, absent_once, cases_bool, false_true, IsAtMost, IsFarBy, knows, stands_twice}
 
 pub err : (low : ℕ) (w : Window) (numbers : Option (List ℕ)) → IsBlank low w → (numbers >>= mark_all w) ≡ None → distinct_registers numbers ≡ false

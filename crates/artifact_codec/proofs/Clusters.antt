@@ -5,8 +5,8 @@ use Rattle.std.specs.List.{list_all, flat_map, concat}
 use Rattle.std.proofs.lemmas.Bool.{and_parts, and_from, leb-true, lt-ltb}
 use Rattle.artifact_codec.specs.Spelling.{number, numbers, counted}
 use Rattle.artifact_codec.specs.Demands.{is_short, is_u32, is_after, ascend_from, ascend, is_cluster, first_of, are_distinct, are_clusters}
-use Rattle.artifact_codec.specs.Reading.{◌>>=◌, number_at, numbers_at, counted_at}
-use Rattle.artifact_codec.specs.Checking.{past_in_order, ordered_past, next_number, next_cluster, registers_distinct, clusters_past}
+use Rattle.artifact_codec.specs.computed.Reading.{◌>>=◌, number_at, numbers_at, counted_at}
+use Rattle.artifact_codec.specs.computed.Checking.{past_in_order, ordered_past, next_number, next_cluster, registers_distinct, clusters_past}
 use Rattle.artifact_codec.proofs.Parts.{IsBytes, bind_some, guard_some, some_is, first, Takes, Takes-then, number_field}
 use Rattle.artifact_codec.proofs.Lists.{Again, counted_again, good_list, Gone, IsPast, GoneNext, IsNext, chain, order_takes, order_again, ordered_is_past, chain_is, list_all_both}
 use Rattle.artifact_codec.proofs.Past.{number_next, spread}

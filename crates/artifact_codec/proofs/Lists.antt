@@ -5,8 +5,8 @@ use Rattle.std.specs.Option.{option_map}
 use Rattle.std.proofs.lemmas.Bool.{and_parts, and_from}
 use Rattle.artifact_codec.specs.Spelling.{number, counted}
 use Rattle.artifact_codec.specs.Demands.{is_short, is_u32, is_after, ascend_from}
-use Rattle.artifact_codec.specs.Reading.{items_at, counted_at}
-use Rattle.artifact_codec.specs.Checking.{past_all, past_in_order, counted_past, ordered_past}
+use Rattle.artifact_codec.specs.computed.Reading.{items_at, counted_at}
+use Rattle.artifact_codec.specs.computed.Checking.{past_all, past_in_order, counted_past, ordered_past}
 use Rattle.artifact_codec.proofs.Parts.{IsBytes, bind_some, some_is, first, Takes, Takes-then, number_field}
 
 -- a list of no value

@@ -3,8 +3,8 @@ use Rattle.std.proofs.Common.{◌≡◌, ℕ, suc, ◌-◌, ◌+◌, ◌≤◌, 
 use Rattle.std.proofs.lemmas.List.{append-nil}
 use Rattle.artifact_codec.specs.declared.refusal.Refusal.{Refusal}
 use Rattle.artifact_codec.specs.declared.refusal.Refusal.TheVariants as refusals
-use Rattle.artifact_codec.specs.Reading.{◌>>=◌, Fails, items_at}
-use Rattle.artifact_codec.specs.Checking.{past_in_order, past_all}
+use Rattle.artifact_codec.specs.computed.Reading.{◌>>=◌, Fails, items_at}
+use Rattle.artifact_codec.specs.computed.Checking.{past_in_order, past_all}
 
 -- what was read before, and what is still read
 abbrev pub with_front : {A : Type 0} → List A → Option (List A × List ℕ) → Option (List A × List ℕ)

@@ -2,8 +2,8 @@
 use Rattle.std.proofs.Common.{◌≡◌, ℕ, zero, suc, ◌-◌, ◌+◌, ◌≤◌, ◌<◌, List, [], ◌∷◌, ◌++◌, Option, Some, None, refl, sym, ap, ◌∙◌, arith}
 use Rattle.std.specs.List.{concat}
 use Rattle.artifact_codec.specs.declared.window.Window.{Window}
-use Rattle.artifact_codec.specs.Reading.{◌>>=◌, number_at, items_at, counted_at, numbers_at}
-use Rattle.artifact_codec.specs.Windows.{mark, mark_all, mark_numbers, mark_list, mark_lists, mark_counted, registers}
+use Rattle.artifact_codec.specs.computed.Reading.{◌>>=◌, number_at, items_at, counted_at, numbers_at}
+use Rattle.artifact_codec.specs.computed.Windows.{mark, mark_all, mark_numbers, mark_list, mark_lists, mark_counted, registers}
 
 module _ (count i : ℕ) (w : Window) (bytes : List ℕ) (total : Option (Window × List ℕ)) where
   pub number_missing : i < count → number_at bytes ≡ None → mark_numbers (count - i) w bytes ≡ total → total ≡ None

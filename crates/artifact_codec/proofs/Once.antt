@@ -5,8 +5,8 @@ use Rattle.std.proofs.lemmas.List.{get_or-set_same, get_or-set_other, length-set
 use Rattle.core_ir.specs.Lists.{has}
 use Rattle.artifact_codec.specs.declared.window.Window.{Window}
 use Rattle.artifact_codec.specs.Demands.{are_distinct}
-use Rattle.artifact_codec.specs.Reading.{◌>>=◌}
-use Rattle.artifact_codec.specs.Windows.{lesser, mark, mark_all, is_once}
+use Rattle.artifact_codec.specs.computed.Reading.{◌>>=◌}
+use Rattle.artifact_codec.specs.computed.Windows.{lesser, mark, mark_all, is_once}
 
 -- ---- a list in which each number stands once
 

@@ -9,7 +9,7 @@ use Rattle.artifact_codec.specs.Spelling.{number, signed}
 use Rattle.artifact_codec.specs.Demands.{is_u32, is_i128}
 use Rattle.std.specs.Int.RustNames.{FitsSigned}
 use Rattle.artifact_codec.proofs.Sixteen.{be_bytes_16, below_128, from_to_16}
-use Rattle.artifact_codec.specs.Reading.{◌>>=◌, number_at, signed_at}
+use Rattle.artifact_codec.specs.computed.Reading.{◌>>=◌, number_at, signed_at}
 
 abbrev pub IsBytes : List ℕ → Type 0
 IsBytes bytes = (i : ℕ) → get_or bytes i 0 < 256

@@ -8,8 +8,8 @@ use Rattle.sv_base.specs.declared.ids.SiteId.{SiteId}
 use Rattle.core_ir.specs.Constraints.{is_constraint_before}
 use Rattle.artifact_codec.specs.Spelling.{number, numbers, counted, constraint, site_colour}
 use Rattle.artifact_codec.specs.Demands.{is_short, is_u32, is_after, ascend, is_constraint, constraint_fits, are_constraints, is_set, are_sets, are_colours}
-use Rattle.artifact_codec.specs.Reading.{◌>>=◌, site_colour_at}
-use Rattle.artifact_codec.specs.Checking.{counted_past, ordered_past, checked, next_constraint, next_number, next_site_colour, set_past}
+use Rattle.artifact_codec.specs.computed.Reading.{◌>>=◌, site_colour_at}
+use Rattle.artifact_codec.specs.computed.Checking.{counted_past, ordered_past, checked, next_constraint, next_number, next_site_colour, set_past}
 use Rattle.artifact_codec.proofs.Parts.{guard_some, some_is, first, Takes, IsField, number_field}
 use Rattle.artifact_codec.proofs.Rows.{constraint_field, site_colour_field, site_fits}
 use Rattle.artifact_codec.proofs.Lists.{IsPast, counted_is_past, IsNext, ordered_is_past, chain_is, list_all_both}

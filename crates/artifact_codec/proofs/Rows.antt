@@ -8,7 +8,7 @@ use Rattle.core_ir.specs.declared.artifacts.Constraint.{Constraint}
 use Rattle.core_ir.specs.declared.artifacts.WritePart.{WritePart}
 use Rattle.artifact_codec.specs.Spelling.{number, signed, flag, optional, constraint, write, colour_code, site_colour}
 use Rattle.artifact_codec.specs.Demands.{is_u32, is_i128, constraint_fits, write_fits}
-use Rattle.artifact_codec.specs.Reading.{◌>>=◌, byte_at, number_at, signed_at, flag_at, entry_at, constraint_at, write_at, colour_at, site_colour_at}
+use Rattle.artifact_codec.specs.computed.Reading.{◌>>=◌, byte_at, number_at, signed_at, flag_at, entry_at, constraint_at, write_at, colour_at, site_colour_at}
 use Rattle.artifact_codec.proofs.Parts.{IsBytes, bind_some, some_is, first, Takes, Takes-then, Takes-one, IsField, number_field, signed_field}
 
 abbrev pub any : {A : Type 0} → A → Bool

@@ -7,8 +7,8 @@ use Rattle.core_ir.specs.declared.artifacts.WritePart.{WritePart}
 use Rattle.core_ir.specs.Plain.{PlainBounds, PlainCall, PlainArtifact}
 use Rattle.artifact_codec.specs.Spelling.{number, signed, flag, optional, counted, bounds, matrices, call, write, summary}
 use Rattle.artifact_codec.specs.Demands.{is_short, is_u32, is_i128, is_after, ascend, is_bound, is_entry, is_matrix, are_matrices, is_state, is_call, are_calls, is_write, write_fits, are_writes, is_summary}
-use Rattle.artifact_codec.specs.Reading.{◌>>=◌, signed_at, write_at}
-use Rattle.artifact_codec.specs.Checking.{past_all, ordered_past, checked, next_number, entry_past, bounds_past, matrices_past, state_past, next_call, next_write, summary_past}
+use Rattle.artifact_codec.specs.computed.Reading.{◌>>=◌, signed_at, write_at}
+use Rattle.artifact_codec.specs.computed.Checking.{past_all, ordered_past, checked, next_number, entry_past, bounds_past, matrices_past, state_past, next_call, next_write, summary_past}
 use Rattle.artifact_codec.proofs.Parts.{IsBytes, bind_some, some_is, first, Takes, Takes-then, IsField, signed_field}
 use Rattle.artifact_codec.proofs.Rows.{byte_field, flag_field, entry_field, good_option, write_field}
 use Rattle.artifact_codec.proofs.Lists.{Gone, IsPast, all_gone, all_past_again, counted_is_past, IsNext, ordered_is_past, chain_is, list_all_both}

@@ -8,8 +8,8 @@ use Rattle.core_ir.specs.Plain.{PlainCall, PlainStored, Constraints, Solved, Clu
 use Rattle.artifact_codec.specs.Spelling.{number, numbers, signed, optional, counted, constraint, bounds, matrices, call, write, summary, site_colour, kind_of, content, spelling}
 use Rattle.artifact_codec.specs.Demands.{is_short, is_u32, is_entry, is_matrix, are_matrices, is_state, is_call, are_calls, write_fits, is_write, are_writes, is_constraint, constraint_fits, are_constraints, is_set, are_sets, is_cluster, first_of, are_clusters, are_colours, ascend, is_stored, IsSpellingOf}
 use Rattle.core_ir.specs.Constraints.{is_constraint_before}
-use Rattle.artifact_codec.specs.Reading.{◌>>=◌, entry_at, constraint_at, write_at, site_colour_at, counted_at, numbers_at, bounds_at, matrices_at, state_at, call_at, summary_at, content_at, stored_at, GivesOption}
-use Rattle.artifact_codec.specs.Checking.{counted_past, ordered_past, set_past, clusters_past, summary_past, next_constraint, next_site_colour, content_past, is_content, is_spelling, decoded}
+use Rattle.artifact_codec.specs.computed.Reading.{◌>>=◌, entry_at, constraint_at, write_at, site_colour_at, counted_at, numbers_at, bounds_at, matrices_at, state_at, call_at, summary_at, content_at, stored_at, GivesOption}
+use Rattle.artifact_codec.specs.computed.Checking.{counted_past, ordered_past, set_past, clusters_past, summary_past, next_constraint, next_site_colour, content_past, is_content, is_spelling, decoded}
 use Rattle.artifact_codec.proofs.Parts.{IsBytes, IsBytes-rest, some_is, number_field}
 use Rattle.artifact_codec.proofs.Rows.{flag_field, entry_field, constraint_field, write_field, site_colour_field, site_fits}
 use Rattle.artifact_codec.proofs.Lists.{Again, items_again, counted_again, good_list, list_all_both}

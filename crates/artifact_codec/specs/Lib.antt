@@ -1,5 +1,3 @@
 pub mod Spelling
 pub mod Demands
-pub mod Reading
-pub mod Checking
-pub mod Windows
+pub mod computed

@@ -1,7 +1,7 @@
 ghost use Rattle.std.specs.Prelude.{◌≡◌, None, nat_lt};
 ghost use Rattle.artifact_codec.specs.Demands.{is_after, is_constraint, has_third};
-ghost use Rattle.artifact_codec.specs.Reading.{Reads};
-ghost use Rattle.artifact_codec.specs.Checking.{past_all, past_in_order, counted_past, ordered_past, next_constraint, next_number, next_site_colour, next_cluster, set_past};
+ghost use Rattle.artifact_codec.specs.computed.Reading.{Reads};
+ghost use Rattle.artifact_codec.specs.computed.Checking.{past_all, past_in_order, counted_past, ordered_past, next_constraint, next_number, next_site_colour, next_cluster, set_past};
 ghost use Rattle.core_ir.specs.Constraints.{is_constraint_before};
 
 use crate::fields::number_at;

@@ -1,7 +1,7 @@
 ghost use Rattle.std.specs.Prelude.{◌≡◌, None};
 ghost use Rattle.artifact_codec.specs.Demands.{is_bound, is_entry, is_write};
-ghost use Rattle.artifact_codec.specs.Reading.{Reads};
-ghost use Rattle.artifact_codec.specs.Checking.{past_all, past_in_order, counted_past, ordered_past, entry_past, bounds_past, matrices_past, state_past, next_call, next_write, summary_past};
+ghost use Rattle.artifact_codec.specs.computed.Reading.{Reads};
+ghost use Rattle.artifact_codec.specs.computed.Checking.{past_all, past_in_order, counted_past, ordered_past, entry_past, bounds_past, matrices_past, state_past, next_call, next_write, summary_past};
 
 use crate::checking::{is_above, next_number};
 use crate::fields::{byte_at, entry_at, flag_at, number_at};

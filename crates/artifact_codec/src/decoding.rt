@@ -1,8 +1,8 @@
 ghost use Rattle.std.specs.Prelude.{◌≡◌, IfOk, IfSome, IfNone};
 ghost use Rattle.core_ir.specs.Plain.{PlainStored, stored_of};
 ghost use Rattle.artifact_codec.specs.Demands.{IsSpellingOf};
-ghost use Rattle.artifact_codec.specs.Reading.{Gives, GivesOption, content_at};
-ghost use Rattle.artifact_codec.specs.Checking.{decoded};
+ghost use Rattle.artifact_codec.specs.computed.Reading.{Gives, GivesOption, content_at};
+ghost use Rattle.artifact_codec.specs.computed.Checking.{decoded};
 
 use crate::reading::{colours, constraints, lists};
 use crate::reading_summary::summary;

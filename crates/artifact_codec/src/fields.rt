@@ -1,6 +1,6 @@
 ghost use Rattle.std.specs.Prelude.{◌≡◌, length};
 ghost use Rattle.std.specs.Int.{w128, from_be_bytes};
-ghost use Rattle.artifact_codec.specs.Reading.{Reads, byte_at, number_at, signed_at, flag_at, entry_at, colour_at};
+ghost use Rattle.artifact_codec.specs.computed.Reading.{Reads, byte_at, number_at, signed_at, flag_at, entry_at, colour_at};
 
 use crate::refusal::Malformed;
 use sv_base::Colour;

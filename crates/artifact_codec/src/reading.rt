@@ -1,5 +1,5 @@
 ghost use Rattle.core_ir.specs.Plain.{lists_of};
-ghost use Rattle.artifact_codec.specs.Reading.{Gives, items_at, counted_at, number_at, numbers_at, constraint_at, site_colour_at};
+ghost use Rattle.artifact_codec.specs.computed.Reading.{Gives, items_at, counted_at, number_at, numbers_at, constraint_at, site_colour_at};
 
 use crate::fields::number_at;
 use crate::records::{constraint_at, site_colour_at};

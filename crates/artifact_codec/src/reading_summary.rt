@@ -1,6 +1,6 @@
 ghost use Rattle.std.specs.Prelude.{map, ◌*◌, ◌+◌};
 ghost use Rattle.core_ir.specs.Plain.{bounds_of, all_bounds, some_bounds, call_of, artifact_of};
-ghost use Rattle.artifact_codec.specs.Reading.{Gives, items_at, counted_at, entry_at, write_at, bounds_at, state_at, call_at, summary_at};
+ghost use Rattle.artifact_codec.specs.computed.Reading.{Gives, items_at, counted_at, entry_at, write_at, bounds_at, state_at, call_at, summary_at};
 
 use crate::fields::{byte_at, entry_at, flag_at, number_at};
 use crate::records::write_at;

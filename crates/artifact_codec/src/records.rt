@@ -1,4 +1,4 @@
-ghost use Rattle.artifact_codec.specs.Reading.{Reads, constraint_at, write_at, site_colour_at};
+ghost use Rattle.artifact_codec.specs.computed.Reading.{Reads, constraint_at, write_at, site_colour_at};
 
 use crate::fields::{byte_at, colour_at, number_at, signed_at};
 use crate::refusal::Malformed;

@@ -2,8 +2,8 @@ ghost use Rattle.std.specs.Prelude.{◌≡◌, ◌↔◌, IsTrue};
 ghost use Rattle.core_ir.specs.Plain.{PlainStored};
 ghost use Rattle.artifact_codec.specs.Spelling.{kind_of};
 ghost use Rattle.artifact_codec.specs.Demands.{IsSpellingOf};
-ghost use Rattle.artifact_codec.specs.Reading.{Reads};
-ghost use Rattle.artifact_codec.specs.Checking.{clusters_past, content_past, is_content, is_spelling};
+ghost use Rattle.artifact_codec.specs.computed.Reading.{Reads};
+ghost use Rattle.artifact_codec.specs.computed.Checking.{clusters_past, content_past, is_content, is_spelling};
 
 use crate::checking::{clusters_in_place, colours_past, constraints_past, sets_past};
 use crate::checking_summary::summary_past;

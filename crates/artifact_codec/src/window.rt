@@ -1,7 +1,7 @@
 ghost use Rattle.std.specs.Prelude.{◌≡◌, ℕ, Some, None, length};
-ghost use Rattle.artifact_codec.specs.Reading.{Reads};
-ghost use Rattle.artifact_codec.specs.Checking.{registers_distinct};
-ghost use Rattle.artifact_codec.specs.Windows.{IsBlank, mark, mark_numbers, mark_list, mark_lists, mark_counted, lesser, registers, Advances};
+ghost use Rattle.artifact_codec.specs.computed.Reading.{Reads};
+ghost use Rattle.artifact_codec.specs.computed.Checking.{registers_distinct};
+ghost use Rattle.artifact_codec.specs.computed.Windows.{IsBlank, mark, mark_numbers, mark_list, mark_lists, mark_counted, lesser, registers, Advances};
 
 use crate::fields::number_at;
 use crate::refusal::Malformed;

@@ -8,7 +8,7 @@ use Rattle.std.proofs.lemmas.Bool.{cases_Bool, cases_lt, or_cases, eqb-true, eq-
 use Rattle.std.proofs.lemmas.Bool.Decides.{nat_tests}
 use Rattle.c_lexer.specs.Bytes.{Text, AllAre, Stops, is_octal, is_hexadecimal}
 use Rattle.c_lexer.specs.Characters.{simple, in_byte, is_universal, IsNoEscape, Reads}
-use Rattle.c_lexer.specs.Values.{simple_or_wrong, octal_len, hexadecimal_escape, character_at, characters_in}
+use Rattle.c_lexer.specs.computed.Values.{simple_or_wrong, octal_len, hexadecimal_escape, character_at, characters_in}
 use Rattle.c_lexer.specs.declared.character.Character.{Character}
 use Rattle.c_lexer.specs.declared.character.Character.TheVariants as characters
 use Rattle.c_lexer.proofs.Runs.{run_len, run_reaches, run_all, run_stops}

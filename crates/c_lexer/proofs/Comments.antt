@@ -5,7 +5,7 @@ use Rattle.std.proofs.lemmas.List.{take_at, drop_at, take-append-drop}
 use Rattle.std.proofs.lemmas.Bool.{and_parts, eqb-true, cond_both}
 use Rattle.c_lexer.specs.Bytes.{Text, in_line}
 use Rattle.c_lexer.specs.White.{ClosesFirst, NeverCloses, IsLine}
-use Rattle.c_lexer.specs.Settings.{close_more, closes, close_len}
+use Rattle.c_lexer.specs.computed.Settings.{close_more, closes, close_len}
 use Rattle.c_lexer.proofs.Runs.{run_len, run_all, run_stops}
 
 -- ---- a comment closes at its first `*/`

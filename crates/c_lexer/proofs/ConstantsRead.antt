@@ -8,7 +8,7 @@ use Rattle.std.proofs.lemmas.Bool.Decides.{nat_tests}
 use Rattle.c_values.specs.declared.int_type.IntType.{IntType}
 use Rattle.c_lexer.specs.Bytes.{Text, AllAre, Stops, is_digit, is_octal, is_hexadecimal}
 use Rattle.c_lexer.specs.Constants.{is_u, is_l, is_x, suffix_of, Spells, candidates, first_holding, IsConstant}
-use Rattle.c_lexer.specs.Values.{typed, typed_by, constant_in, hexadecimal_in, constant}
+use Rattle.c_lexer.specs.computed.Values.{typed, typed_by, constant_in, hexadecimal_in, constant}
 use Rattle.c_lexer.specs.declared.constant.Suffix.{Suffix}
 use Rattle.c_lexer.proofs.Runs.{run_len, run_all}
 

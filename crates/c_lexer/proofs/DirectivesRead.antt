@@ -3,7 +3,7 @@ use Rattle.std.proofs.Common.{◌≡◌, ℕ, Bool, true, false, ◌||◌, eqb, 
 use Rattle.std.proofs.lemmas.Bool.{or_cases, or_parts, or_left, or_right, eqb-true, eq-eqb, ne_eqb, false≢true}
 use Rattle.c_lexer.specs.Bytes.{Text}
 use Rattle.c_lexer.specs.Directives.{IsNamed}
-use Rattle.c_lexer.specs.Settings.{with_bytes, spelled, name_in}
+use Rattle.c_lexer.specs.computed.Settings.{with_bytes, spelled, name_in}
 
 -- ---- names in quotes
 some_pair : (bytes : Text) (o : Option (Text × Text)) (name behind : Text) → with_bytes bytes o ≡ Some (name, behind) → (more : Text) × (o ≡ Some (more, behind)) × (bytes ++ more ≡ name)

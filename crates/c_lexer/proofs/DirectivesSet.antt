@@ -10,7 +10,7 @@ use Rattle.std.proofs.lemmas.Bool.{or_parts, or_left, or_right, eqb-true, eq-eqb
 use Rattle.std.proofs.lemmas.Bool.Decides.{nat_tests}
 use Rattle.c_lexer.specs.Bytes.{Text, AllAre, Stops, is_blank, is_digit, is_word_byte, is_number_byte}
 use Rattle.c_lexer.specs.Directives.{Space, IsDigits, IsNamed, Flags, IsLineNumber}
-use Rattle.c_lexer.specs.Settings.{no_space, at_end, only_space, name_in, opened, named, behind_flag, less_flag, only_flags, small, line_number, behind_word}
+use Rattle.c_lexer.specs.computed.Settings.{no_space, at_end, only_space, name_in, opened, named, behind_flag, less_flag, only_flags, small, line_number, behind_word}
 use Rattle.c_lexer.proofs.Runs.{run_len, run_all, run_stops}
 use Rattle.c_lexer.proofs.Spaces.{no_space_is, no_space_at, stuck_byte, only_space_is, only_space_of}
 use Rattle.c_lexer.proofs.DirectivesRead.{named_at, named_is}

@@ -2,7 +2,7 @@
 use Rattle.std.proofs.Common.{◌≡◌, ℕ, suc, ◌<◌, Bool, true, false, ◌||◌, eqb, [], ◌∷◌, length, drop, refl, sym, ap, ◌∙◌, arith}
 use Rattle.std.specs.List.{list_any}
 use Rattle.c_lexer.specs.Bytes.{Text}
-use Rattle.c_lexer.specs.Values.{character_at, characters_in}
+use Rattle.c_lexer.specs.computed.Values.{character_at, characters_in}
 use Rattle.c_lexer.specs.declared.character.Character.{Character}
 
 or_assoc : (a b c : Bool) → ((a || b) || c) ≡ (a || (b || c))

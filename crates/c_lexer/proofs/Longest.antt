@@ -8,8 +8,8 @@ use Rattle.std.proofs.lemmas.Bool.Decides.{nat_tests}
 use Rattle.c_syntax.specs.Marks.{Mark, marks}
 use Rattle.c_lexer.specs.Bytes.{Text, is_digit, is_nondigit, is_word_byte, is_number_byte, is_sign, is_exponent, is_newline}
 use Rattle.c_lexer.specs.Shapes.{mark_number, IsWord, GoesOn, BeginsWithDigit, IsNumber, Quotes, IsQuoted, IsMark, CanBe, IsLongest, NoToken}
-use Rattle.c_lexer.specs.Marks.{best, measured, mark_len}
-use Rattle.c_lexer.specs.Lengths.{goes_on, number_more, one_more, quoted_more, begins_with_digit, of_shape, of_mark, shape_at}
+use Rattle.c_lexer.specs.computed.Marks.{best, measured, mark_len}
+use Rattle.c_lexer.specs.computed.Lengths.{goes_on, number_more, one_more, quoted_more, begins_with_digit, of_shape, of_mark, shape_at}
 use Rattle.c_lexer.specs.declared.shape.Shape.{Shape}
 use Rattle.c_lexer.specs.declared.shape.Shape.TheVariants as shapes
 use Rattle.c_lexer.proofs.Runs.{run_reaches, run_all}

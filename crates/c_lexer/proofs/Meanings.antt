@@ -6,7 +6,7 @@ use Rattle.c_lexer.specs.Bytes.{Text}
 use Rattle.c_lexer.specs.Shapes.{CanBe}
 use Rattle.c_lexer.specs.Characters.{Reads}
 use Rattle.c_lexer.specs.Meaning.{Meaning, Means, character_meaning, text_meaning, widened}
-use Rattle.c_lexer.specs.Values.{number_kind, constant, all_characters, unquoted, meaning}
+use Rattle.c_lexer.specs.computed.Values.{number_kind, constant, all_characters, unquoted, meaning}
 use Rattle.c_lexer.specs.declared.character.Character.{Character}
 use Rattle.c_lexer.specs.declared.shape.Shape.{Shape}
 use Rattle.c_lexer.specs.declared.shape.Shape.TheVariants as shapes

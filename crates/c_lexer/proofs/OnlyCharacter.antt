@@ -6,7 +6,7 @@ use Rattle.std.specs.Prelude.{Ok, Err}
 use Rattle.c_syntax.specs.declared.token.TokenKind.TheVariants as kinds
 use Rattle.c_lexer.specs.Bytes.{Text}
 use Rattle.c_lexer.specs.Meaning.{Meaning, wide_character, only_character, signed}
-use Rattle.c_lexer.specs.Values.{character_at, characters_in, all_characters}
+use Rattle.c_lexer.specs.computed.Values.{character_at, characters_in, all_characters}
 use Rattle.c_lexer.specs.declared.character.Character.{Character}
 use Rattle.c_lexer.specs.declared.character.Character.TheVariants as characters
 

@@ -2,7 +2,7 @@
 use Rattle.std.proofs.Common.{◌≡◌, ℕ, ◌≤◌, ◌-◌, Bool, true, false, eqb, cond, List, [], ◌∷◌, length, get_or, take, drop, Some, refl, sym, ap, ◌∙◌, arith}
 use Rattle.std.proofs.lemmas.List.{take_all}
 use Rattle.std.specs.List.{starts_with}
-use Rattle.c_lexer.specs.Marks.{mark_len}
+use Rattle.c_lexer.specs.computed.Marks.{mark_len}
 
 pub dots : (rest : List ℕ) → mark_len (46 ∷ rest) ≡ cond (starts_with eqb rest (46 ∷ 46 ∷ [])) (Some (33, 3)) (Some (6, 1))
 unfolding mark_len

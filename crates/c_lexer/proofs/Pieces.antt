@@ -14,10 +14,10 @@ use Rattle.c_lexer.specs.Meaning.{Meaning, Means}
 use Rattle.c_lexer.specs.Directives.{Directive}
 use Rattle.c_lexer.specs.Spots.{past, past_token, past_directive, token_at}
 use Rattle.c_lexer.specs.Cuts.{Names, Turn, found, file_of, behind_newline, BeginsNoToken, most_names, most_bytes, IsFull, Piece, Fault}
-use Rattle.c_lexer.specs.Lengths.{shape_at}
-use Rattle.c_lexer.specs.Values.{meaning}
-use Rattle.c_lexer.specs.Settings.{begins_byte, close_len, opens_block, opens_line, setting_of}
-use Rattle.c_lexer.specs.Scan.{step, with_names, Turned, named, commented, block_comment, line_comment, meant, shaped, token, plain, is_full, set, directive, begins_directive, turn}
+use Rattle.c_lexer.specs.computed.Lengths.{shape_at}
+use Rattle.c_lexer.specs.computed.Values.{meaning}
+use Rattle.c_lexer.specs.computed.Settings.{begins_byte, close_len, opens_block, opens_line, setting_of}
+use Rattle.c_lexer.specs.computed.Scan.{step, with_names, Turned, named, commented, block_comment, line_comment, meant, shaped, token, plain, is_full, set, directive, begins_directive, turn}
 use Rattle.c_lexer.specs.declared.shape.Shape.{Shape}
 use Rattle.c_lexer.specs.declared.directive.Setting.{Setting}
 use Rattle.c_lexer.specs.declared.directive.Setting.TheVariants as settings

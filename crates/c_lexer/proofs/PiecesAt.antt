@@ -12,9 +12,9 @@ use Rattle.c_lexer.specs.Shapes.{IsLongest}
 use Rattle.c_lexer.specs.Meaning.{Meaning, Means}
 use Rattle.c_lexer.specs.Spots.{past_token, token_at}
 use Rattle.c_lexer.specs.Cuts.{Names, Turn, BeginsNoToken, most_bytes, Piece, Fault}
-use Rattle.c_lexer.specs.Lengths.{shape_at}
-use Rattle.c_lexer.specs.Settings.{begins_byte, opens_block, opens_line}
-use Rattle.c_lexer.specs.Scan.{step, named, counted, meant, token, set, begins_directive, turn}
+use Rattle.c_lexer.specs.computed.Lengths.{shape_at}
+use Rattle.c_lexer.specs.computed.Settings.{begins_byte, opens_block, opens_line}
+use Rattle.c_lexer.specs.computed.Scan.{step, named, counted, meant, token, set, begins_directive, turn}
 use Rattle.c_lexer.specs.declared.shape.Shape.{Shape}
 use Rattle.c_lexer.specs.declared.directive.Setting.{Setting}
 use Rattle.c_lexer.specs.declared.directive.Setting.TheVariants as settings
@@ -36,7 +36,7 @@ white_no_hash : (b : ℕ) → (is_newline b || is_blank b) ≡ true → eqb b 35
 white_no_hash b e = grind (arith, nat_tests)
 
 -- ---- directives
-set_of : (names : Names) (s : Spot) (line text rest : Text) (o : Option Setting) → s.is_first ≡ true → Rattle.c_lexer.specs.White.IsLine line text rest → Rattle.c_lexer.specs.Settings.setting_of line ≡ o
+set_of : (names : Names) (s : Spot) (line text rest : Text) (o : Option Setting) → s.is_first ≡ true → Rattle.c_lexer.specs.White.IsLine line text rest → Rattle.c_lexer.specs.computed.Settings.setting_of line ≡ o
     → turn names s (35 ∷ text) ≡ set names s (35 ∷ line) rest o
 set_of names s line text rest o first h e = turn_directive names s (35 ∷ text) (and_from _ _ first refl) ∙ directive_at names s line text rest o h e
 

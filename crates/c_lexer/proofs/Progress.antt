@@ -10,7 +10,7 @@ use Rattle.c_lexer.specs.Shapes.{IsLongest}
 use Rattle.c_lexer.specs.Directives.{Directive}
 use Rattle.c_lexer.specs.Spots.{IsWithin, past_byte, past, past_token, past_directive}
 use Rattle.c_lexer.specs.Cuts.{Names, Turn, behind_newline, Piece, Fault}
-use Rattle.c_lexer.specs.Scan.{Extends}
+use Rattle.c_lexer.specs.computed.Scan.{Extends}
 use Rattle.c_lexer.specs.declared.shape.Shape.{Shape}
 use Rattle.c_lexer.specs.declared.directive.Setting.TheVariants as settings
 use Rattle.c_lexer.specs.declared.spot.Spot.{Spot}

@@ -7,7 +7,7 @@ use Rattle.std.proofs.lemmas.Bool.{and_parts, eqb-true, eq-eqb, ltb-true, ltb-fa
 use Rattle.c_syntax.specs.Marks.{Mark, marks}
 use Rattle.c_lexer.specs.Bytes.{Text, is_nondigit, is_digit}
 use Rattle.c_lexer.specs.Shapes.{mark_number, IsMark}
-use Rattle.c_lexer.specs.Marks.{begins, longer, best}
+use Rattle.c_lexer.specs.computed.Marks.{begins, longer, best}
 
 -- ---- a text begins with a word
 pub begins_is : (w back : Text) → begins w (w ++ back) ≡ true

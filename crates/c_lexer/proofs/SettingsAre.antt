@@ -3,7 +3,7 @@ use Rattle.std.proofs.Common.{◌≡◌, ℕ, Bool, true, false, cond, [], ◌�
 use Rattle.std.proofs.lemmas.Bool.Decides.{nat_tests}
 use Rattle.c_lexer.specs.Bytes.{Text, AllAre, Stops, is_blank, is_digit, is_word_byte}
 use Rattle.c_lexer.specs.Directives.{Space, AtEnd, Directive}
-use Rattle.c_lexer.specs.Settings.{◌>>=◌, no_space, at_end, only_space, named, only_flags, line_number, marker, line, behind_word, line_or_marker, pragma_or_line, setting_of}
+use Rattle.c_lexer.specs.computed.Settings.{◌>>=◌, no_space, at_end, only_space, named, only_flags, line_number, marker, line, behind_word, line_or_marker, pragma_or_line, setting_of}
 use Rattle.c_lexer.specs.declared.directive.Setting.{Setting}
 use Rattle.c_lexer.specs.declared.directive.Setting.TheVariants as settings
 use Rattle.c_lexer.proofs.Spaces.{no_space_is, no_space_at, stuck_byte, only_space_is, only_space_of}

@@ -4,7 +4,7 @@ use Rattle.std.proofs.lemmas.Bool.{and_parts, and_from, eqb-true, eq-eqb, falseâ
 use Rattle.c_lexer.specs.Bytes.{Text, is_blank}
 use Rattle.c_lexer.specs.White.{ClosesFirst}
 use Rattle.c_lexer.specs.Directives.{Space, AtEnd, OnlySpace}
-use Rattle.c_lexer.specs.Settings.{begins_byte, opens_block, behind_comment, close_len, less_space, behind_space, no_space, at_end, only_space}
+use Rattle.c_lexer.specs.computed.Settings.{begins_byte, opens_block, behind_comment, close_len, less_space, behind_space, no_space, at_end, only_space}
 use Rattle.c_lexer.proofs.Comments.{close_is, closes_first, close_len_is, close_drop}
 
 -- ---- one blank or comment less

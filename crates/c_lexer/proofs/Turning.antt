@@ -3,7 +3,7 @@ use Rattle.std.proofs.Common.{◌≡◌, ℕ, suc, ◌+◌, ◌-◌, ◌<◌, �
 use Rattle.std.specs.Option.{option_map}
 use Rattle.std.proofs.lemmas.List.{drop_more}
 use Rattle.c_lexer.specs.Bytes.{Text}
-use Rattle.c_lexer.specs.Settings.{closes, close_more, close_len, less_space, behind_space, only_space, less_flag, only_flags}
+use Rattle.c_lexer.specs.computed.Settings.{closes, close_more, close_len, less_space, behind_space, only_space, less_flag, only_flags}
 
 turn_is : (end turn : ℕ) → turn < end → end - turn ≡ suc (end - (turn + 1))
 turn_is end turn lt = omega arith

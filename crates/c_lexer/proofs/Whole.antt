@@ -14,7 +14,7 @@ use Rattle.c_syntax.specs.declared.token.TokenKind.TheVariants as kinds
 use Rattle.c_lexer.specs.Bytes.{Text}
 use Rattle.c_lexer.specs.Spots.{at_start, token_at}
 use Rattle.c_lexer.specs.Cuts.{Names, Turn, Outcome, Outcome.Done, Outcome.Refused, fault_at, with_token, Cuts, most_file_bytes, IsLexed}
-use Rattle.c_lexer.specs.Scan.{Turned, turn, go_on, run, joined, Refuses, Ends, with_option, Extends}
+use Rattle.c_lexer.specs.computed.Scan.{Turned, turn, go_on, run, joined, Refuses, Ends, with_option, Extends}
 use Rattle.c_lexer.specs.declared.spot.Spot.{Spot}
 use Rattle.c_lexer.proofs.Pieces.{Right, turn_right}
 use Rattle.c_lexer.proofs.PiecesAt.{piece_at, fault_at_turn}

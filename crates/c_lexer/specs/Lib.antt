@@ -7,8 +7,4 @@ pub mod Meaning
 pub mod Directives
 pub mod Spots
 pub mod Cuts
-pub mod Marks
-pub mod Lengths
-pub mod Values
-pub mod Settings
-pub mod Scan
+pub mod computed

@@ -4,7 +4,7 @@ ghost use Rattle.c_lexer.specs.Bytes.{is_hexadecimal};
 ghost use Rattle.std.specs.Str.Parse.{digits_value};
 ghost use Rattle.c_lexer.specs.Characters.{simple, in_byte, is_universal};
 ghost use Rattle.c_lexer.specs.Meaning.{is_wrong, is_universal_name};
-ghost use Rattle.c_lexer.specs.Values.{octal_len, hexadecimal_escape, escape, character_at, all_characters};
+ghost use Rattle.c_lexer.specs.computed.Values.{octal_len, hexadecimal_escape, escape, character_at, all_characters};
 
 use crate::bytes::{behind, hexadecimal_digit_len, is_octal, octal_digit_len};
 use crate::constant::value_of;

@@ -2,7 +2,7 @@ ghost use Rattle.std.specs.Prelude.{◌≡◌, ◌≤◌, ◌<◌, ◌^◌, ◌�
 ghost use Rattle.std.specs.Char.{digit_value};
 ghost use Rattle.std.specs.Str.Parse.{digits_value};
 ghost use Rattle.c_lexer.specs.Constants.{is_u, is_l, is_x, suffix_of, candidates, first_holding};
-ghost use Rattle.c_lexer.specs.Values.{hexadecimal_in, constant_in, constant};
+ghost use Rattle.c_lexer.specs.computed.Values.{hexadecimal_in, constant_in, constant};
 
 use crate::bytes::{digit_len, hexadecimal_digit_len, is_digit, octal_digit_len};
 use c_values::{IntType, is_inside};

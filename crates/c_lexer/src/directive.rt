@@ -1,5 +1,5 @@
 ghost use Rattle.std.specs.Prelude.{◌≡◌, ◌≤◌, false, length, codes, ◌++◌, OnOk, IfOk, IfSome, MatchOption, Some, None};
-ghost use Rattle.c_lexer.specs.Settings.{spelled, name_in, opened, named, less_flag, only_flags, line_number, marker, line, behind_word, line_or_marker, setting_of};
+ghost use Rattle.c_lexer.specs.computed.Settings.{spelled, name_in, opened, named, less_flag, only_flags, line_number, marker, line, behind_word, line_or_marker, setting_of};
 
 use crate::bytes::{behind, digit_len, number_byte_len, word_len};
 use crate::constant::value_of;

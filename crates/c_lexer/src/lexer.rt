@@ -2,7 +2,7 @@ ghost use Rattle.std.specs.Prelude.{◌≡◌, ◌≤◌, ◌<◌, ◌++◌, ◌
 ghost use Rattle.sv_base.specs.declared.fault.SourceFault.{SourceFault as Refusal};
 ghost use Rattle.c_lexer.specs.Spots.{IsWithin, token_at};
 ghost use Rattle.c_lexer.specs.Cuts.{Outcome.Done, Outcome.Refused, IsLexed};
-ghost use Rattle.c_lexer.specs.Scan.{run, with_option, Ends, Extends};
+ghost use Rattle.c_lexer.specs.computed.Scan.{run, with_option, Ends, Extends};
 
 use crate::spot::Spot;
 use crate::step::turn;

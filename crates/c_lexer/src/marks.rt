@@ -1,5 +1,5 @@
 ghost use Rattle.std.specs.Prelude.{◌≡◌, ◌∷◌, ◌+◌, ◌≤◌, ◌<◌, IfSome, length};
-ghost use Rattle.c_lexer.specs.Marks.{mark_len};
+ghost use Rattle.c_lexer.specs.computed.Marks.{mark_len};
 
 use c_syntax::marks::*;
 

@@ -2,7 +2,7 @@ ghost use Rattle.std.specs.Prelude.{◌≡◌, ◌≤◌, ◌∷◌, Ok, Err};
 ghost use Rattle.std.specs.List.{list_any};
 ghost use Rattle.c_syntax.specs.Keywords.{keyword_number};
 ghost use Rattle.c_lexer.specs.Meaning.{word_kind, is_hexadecimal_text, is_floating_byte, is_floating, no_constant, signed, only_character, character_meaning, text_meaning, widened};
-ghost use Rattle.c_lexer.specs.Values.{number_kind, constant, all_characters, unquoted, meaning};
+ghost use Rattle.c_lexer.specs.computed.Values.{number_kind, constant, all_characters, unquoted, meaning};
 
 use crate::character::{Character, character_at, flaws_in};
 use crate::constant::{constant, is_x};

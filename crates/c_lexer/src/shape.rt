@@ -1,5 +1,5 @@
 ghost use Rattle.std.specs.Prelude.{◌≡◌, ◌≤◌, ◌<◌, ◌+◌, length, false, IfSome};
-ghost use Rattle.c_lexer.specs.Lengths.{number_more, quoted_more, one_more, begins_with_digit, shape_at};
+ghost use Rattle.c_lexer.specs.computed.Lengths.{number_more, quoted_more, one_more, begins_with_digit, shape_at};
 
 use crate::bytes::{is_digit, is_exponent, is_nondigit, is_number_byte, is_sign, word_len};
 use crate::marks::mark_len;

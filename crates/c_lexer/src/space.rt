@@ -1,5 +1,5 @@
 ghost use Rattle.std.specs.Prelude.{◌≡◌, ◌≤◌, ◌<◌, true, length, drop, IfSome, MatchOption, Some, None};
-ghost use Rattle.c_lexer.specs.Settings.{begins_byte, closes, close_len, opens_block, opens_line, less_space, no_space, at_end, only_space};
+ghost use Rattle.c_lexer.specs.computed.Settings.{begins_byte, closes, close_len, opens_block, opens_line, less_space, no_space, at_end, only_space};
 
 use crate::bytes::{behind, is_blank};
 

@@ -3,7 +3,7 @@ ghost use Rattle.c_lexer.specs.Spots.{IsWithin};
 ghost use Rattle.sv_base.specs.Names.{with_name, number_in};
 ghost use Rattle.c_lexer.specs.Bytes.{in_line};
 ghost use Rattle.c_lexer.specs.Cuts.{fault_at, behind_newline, file_of};
-ghost use Rattle.c_lexer.specs.Scan.{Refuses, step, with_names, block_comment, line_comment, counted, token, plain, is_full, set, directive, begins_directive, turn};
+ghost use Rattle.c_lexer.specs.computed.Scan.{Refuses, step, with_names, block_comment, line_comment, counted, token, plain, is_full, set, directive, begins_directive, turn};
 
 use crate::bytes::{behind, is_blank, line_len};
 use crate::directive::{Setting, setting_of};

@@ -7,7 +7,7 @@ use Rattle.std.proofs.lemmas.Bool.{cases_Bool, cases_eq, eq-eqb, ne_eqb, and_cas
 use Rattle.c_lexer.specs.Bytes.{is_digit, is_nondigit, is_word_byte, is_number_byte}
 use Rattle.first_form.specs.Marks.{is_mark}
 use Rattle.first_form.specs.Pieces.{Piece}
-use Rattle.first_form.specs.Scan.{piece_len, begins_with, put_first, pieces_from}
+use Rattle.first_form.specs.computed.Scan.{piece_len, begins_with, put_first, pieces_from}
 use Rattle.first_form.specs.Cuts.{AllAre, IsLongest, AllBlank, line_after, col_after, Cuts}
 use Rattle.first_form.proofs.Lexing.{piece_step, none_step}
 use Rattle.first_form.proofs.Longest.{Stops, Kind, Word, Digits, Mark, IsOfKind, IsClosed, digit_is_number, digit_no_nondigit, mark_no_nondigit, mark_no_digit, longest_of, closed_of, begins_dark}

@@ -10,7 +10,7 @@ use Rattle.std.proofs.lemmas.List.{length-map, map-append, take_more, drop_more,
 use Rattle.std.proofs.lemmas.Slice.Eq.{bytes_eq-Decides}
 use Rattle.first_form.specs.declared.program.Array.{Array}
 use Rattle.first_form.specs.Form.{names}
-use Rattle.first_form.specs.Reading.{are_distinct}
+use Rattle.first_form.specs.computed.Reading.{are_distinct}
 
 pub list_any-map : {A B : Type 0} (p : B → Bool) (f : A → B) (xs : List A) → list_any p (map f xs) ≡ list_any (λ x. p (f x)) xs
 list_any-map p f [] = refl

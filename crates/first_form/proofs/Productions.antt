@@ -6,7 +6,7 @@ use Rattle.std.specs.Str.{bytes_eq}
 use Rattle.std.proofs.lemmas.Bool.{cases_Bool, and_parts, ltb-true, lt-ltb, leb-true, le-leb, ne_eqb}
 use Rattle.first_form.specs.Pieces.{Piece}
 use Rattle.first_form.specs.Form.{number_end, greatest_size, names, line_at, col_at, Spelled, IsName, IsArrayAt, IsStoreAt}
-use Rattle.first_form.specs.Reading.{word_at, name_at, number_at, array_at, store_at, head_at, tail_at}
+use Rattle.first_form.specs.computed.Reading.{word_at, name_at, number_at, array_at, store_at, head_at, tail_at}
 use Rattle.first_form.specs.declared.program.Array.{Array}
 use Rattle.first_form.specs.declared.program.Store.{Store}
 use Rattle.first_form.proofs.Symbols.{bind_some, word_some, word_gives, name_some, name_gives, number_at_some, number_at_gives, spelled_add, word_adds, word_reads, number_reads, name_reads}

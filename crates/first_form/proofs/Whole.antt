@@ -7,7 +7,7 @@ use Rattle.std.proofs.lemmas.Slice.Eq.{bytes_eq-Decides}
 use Rattle.std.proofs.lemmas.Bool.{cases_Bool, false≢true}
 use Rattle.first_form.specs.Pieces.{Piece}
 use Rattle.first_form.specs.Form.{number_end, names, is_reserved, Spelled, IsName, IsArrayAt, IsStoreAt, Each, IsFormOf}
-use Rattle.first_form.specs.Reading.{many, first_is, second_is, are_distinct, array_at, arrays_at, store_at, stores_at, head_at, tail_at, body_at, program_at}
+use Rattle.first_form.specs.computed.Reading.{many, first_is, second_is, are_distinct, array_at, arrays_at, store_at, stores_at, head_at, tail_at, body_at, program_at}
 use Rattle.first_form.specs.declared.program.Array.{Array}
 use Rattle.first_form.specs.declared.program.Store.{Store}
 use Rattle.first_form.specs.declared.program.Program.{Program}

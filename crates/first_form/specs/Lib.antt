@@ -1,9 +1,8 @@
 pub mod Marks
 pub mod Pieces
 pub mod Cuts
-pub mod Scan
 pub mod Form
-pub mod Reading
 pub mod Front
 pub mod Objects
 pub mod Runs
+pub mod computed

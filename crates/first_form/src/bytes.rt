@@ -2,7 +2,7 @@ ghost use Rattle.std.specs.Prelude.{◌≡◌, ◌<◌, ◌≤◌, length, IfSom
 ghost use Rattle.std.specs.List.{prefix_len};
 ghost use Rattle.c_lexer.specs.Bytes.{is_digit, is_nondigit, is_word_byte, is_number_byte};
 ghost use Rattle.first_form.specs.Marks.{is_mark};
-ghost use Rattle.first_form.specs.Scan.{piece_len};
+ghost use Rattle.first_form.specs.computed.Scan.{piece_len};
 
 pub(crate) fn is_digit(b: u8) -> bool
     ensures { result ≡ is_digit b }

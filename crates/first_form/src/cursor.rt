@@ -1,7 +1,7 @@
 ghost use Rattle.std.specs.Prelude.{◌≡◌, ◌-◌, length, take, drop, All};
 ghost use Rattle.first_form.specs.Pieces.{IsInFile, pieces};
 ghost use Rattle.first_form.specs.Form.{begins_word, line_at, col_at};
-ghost use Rattle.first_form.specs.Reading.{Gives, word_at, name_at, number_at, first_is, second_is};
+ghost use Rattle.first_form.specs.computed.Reading.{Gives, word_at, name_at, number_at, first_is, second_is};
 
 use crate::bytes::is_nondigit;
 use crate::numbers::number_of;

@@ -1,6 +1,6 @@
 ghost use Rattle.std.specs.Prelude.{◌≡◌, length};
 ghost use Rattle.first_form.specs.Form.{names};
-ghost use Rattle.first_form.specs.Reading.{Gives, array_at, arrays_at, store_at, stores_at, head_at, tail_at, body_at, program_at};
+ghost use Rattle.first_form.specs.computed.Reading.{Gives, array_at, arrays_at, store_at, stores_at, head_at, tail_at, body_at, program_at};
 
 use crate::cursor::Cursor;
 use crate::names::{Names, names_of};

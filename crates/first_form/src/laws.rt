@@ -2,7 +2,7 @@ ghost use Rattle.std.specs.Prelude.{◌≡◌, ◌↔◌, ℕ, List, Some};
 ghost use Rattle.first_form.specs.Pieces.{Piece};
 ghost use Rattle.first_form.specs.Cuts.{Cuts};
 ghost use Rattle.first_form.specs.Form.{IsForm};
-ghost use Rattle.first_form.specs.Reading.{reading};
+ghost use Rattle.first_form.specs.computed.Reading.{reading};
 ghost use Rattle.first_form.specs.declared.program.Program.{Program as Checked};
 
 /// A text has at most one list of tokens.

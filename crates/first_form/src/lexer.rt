@@ -1,7 +1,7 @@
 ghost use Rattle.std.specs.Prelude.{◌≡◌, ◌^◌, ◌≤◌, length, All, IfOk};
 ghost use Rattle.first_form.specs.Pieces.{IsInFile, pieces};
-ghost use Rattle.first_form.specs.Scan.{pieces_from};
-ghost use Rattle.first_form.specs.Reading.{Gives};
+ghost use Rattle.first_form.specs.computed.Scan.{pieces_from};
+ghost use Rattle.first_form.specs.computed.Reading.{Gives};
 
 use crate::bytes::piece_len;
 use crate::refusal::Refusal;

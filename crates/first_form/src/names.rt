@@ -3,7 +3,7 @@ ghost use Rattle.std.specs.Prelude.{IfSome, IfNone, MatchOption};
 ghost use Rattle.std.specs.List.{list_any};
 ghost use Rattle.std.specs.Str.{bytes_eq};
 ghost use Rattle.first_form.specs.Form.{names};
-ghost use Rattle.first_form.specs.Reading.{are_distinct};
+ghost use Rattle.first_form.specs.computed.Reading.{are_distinct};
 
 use crate::program::Array;
 use indexmap::IndexSet;

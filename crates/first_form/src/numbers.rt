@@ -1,7 +1,7 @@
 ghost use Rattle.std.specs.Prelude.{◌≡◌, ◌≤◌, true, length};
 ghost use Rattle.std.specs.Str.{all_ascii_digits};
 ghost use Rattle.std.specs.Str.Parse.{digits_value};
-ghost use Rattle.first_form.specs.Reading.{is_number, number_of};
+ghost use Rattle.first_form.specs.computed.Reading.{is_number, number_of};
 
 use crate::bytes::is_digit;
 

@@ -1,7 +1,7 @@
 ghost use Rattle.std.specs.Prelude.{◌≡◌, ◌^◌, ◌≤◌, length, IfOk, IsErrOf};
 ghost use Rattle.first_form.specs.Form.{IsForm};
 ghost use Rattle.first_form.specs.Front.{not_of_form};
-ghost use Rattle.first_form.specs.Reading.{Gives, reading};
+ghost use Rattle.first_form.specs.computed.Reading.{Gives, reading};
 ghost use Rattle.sv_base.specs.declared.fault.SourceFault.{SourceFault as Fault};
 ghost use Rattle.sv_base.specs.declared.fault.FrontFault.TheVariants as faults;
 ghost use Rattle.first_form.specs.declared.program.Program.{Program as Checked};

@@ -3,7 +3,7 @@ use Rattle.std.proofs.Common.{ℕ}
 use Rattle.core_ir.specs.declared.classes.ClassTable.{ClassTable}
 use Rattle.points_to.specs.Families.{Relation}
 use Rattle.points_to.specs.Rules.{IsCopied}
-use Rattle.points_to.specs.RuleParts.{TakesLeaf, TakesLike, TakesLayouts, TakesObject}
+use Rattle.points_to.specs.computed.RuleParts.{TakesLeaf, TakesLike, TakesLayouts, TakesObject}
 
 pub copied_one : (t : ClassTable) (flows : Relation) (layout x y to from : ℕ) → TakesObject t flows layout x y → IsCopied t layout x y to from → flows from to
 unfolding TakesObject TakesLayouts TakesLike TakesLeaf

@@ -9,9 +9,9 @@ use Rattle.points_to.specs.declared.progress.Progress.{Progress}
 use Rattle.points_to.specs.Sets.{has}
 use Rattle.points_to.specs.Families.{Relation, Has, family_of}
 use Rattle.points_to.specs.Rules.{Demands, IsCopied, rule_of, leaves_in, parts_in, entry_node, result_node}
-use Rattle.points_to.specs.RuleParts.{Each, TakesLeaves, GivesLeaves, TakesParts, TakesObject, TakesObjects}
-use Rattle.points_to.specs.Progress.{IsMet, edges_of, known_of}
-use Rattle.points_to.specs.Readers.{reads_target, reads_source}
+use Rattle.points_to.specs.computed.RuleParts.{Each, TakesLeaves, GivesLeaves, TakesParts, TakesObject, TakesObjects}
+use Rattle.points_to.specs.computed.Progress.{IsMet, edges_of, known_of}
+use Rattle.points_to.specs.computed.Readers.{reads_target, reads_source}
 use Rattle.points_to.proofs.Copied.{copied_one, copied_all}
 use Rattle.points_to.proofs.Each.{has_place, place_has}
 use Rattle.points_to.proofs.Steps.{Lasts, asked_as, at_here}

@@ -2,7 +2,7 @@
 use Rattle.std.proofs.Common.{◌≡◌, ℕ, zero, suc, ◌+◌, ◌<◌, ◌≤◌, ◌==◌, ◌↔◌, Bool, true, false, IsTrue, Some, List, [], ◌∷◌, length, get_or, slice_get, refl, sym, ap, ◌∙◌, subst, inl, inr, eqb-true, eq-eqb, arith}
 use Rattle.std.proofs.lemmas.Bool.{cases_lt, or_cases, or_left, or_right, true≢false}
 use Rattle.points_to.specs.Sets.{has}
-use Rattle.points_to.specs.RuleParts.{Each}
+use Rattle.points_to.specs.computed.RuleParts.{Each}
 
 pub got_at : {A : Type 0} (xs : List A) (k : ℕ) (d : A) → k < length xs → slice_get xs k ≡ Some (get_or xs k d)
 got_at [] k d h = absurd (omega arith)

@@ -3,7 +3,7 @@ use Rattle.std.proofs.Common.{◌≡◌, ℕ, zero, suc, ◌+◌, ◌^◌, ◌<�
 use Rattle.std.proofs.lemmas.Bool.{cases_eq, or_cases, or_left, or_right, true≢false}
 use Rattle.points_to.specs.Sets.{has, IsSet, IsAscending, AllFrom, AllBelow}
 use Rattle.points_to.specs.Families.{family_of}
-use Rattle.points_to.specs.Progress.{IsOnce, room}
+use Rattle.points_to.specs.computed.Progress.{IsOnce, room}
 
 pub some_of : (xs : List ℕ) → 0 < length xs → (n : ℕ) × (has xs n ≡ true)
 some_of [] h = absurd (omega arith)

@@ -10,9 +10,9 @@ use Rattle.core_ir.specs.declared.classes.FunctionNodes.{FunctionNodes}
 use Rattle.points_to.specs.declared.progress.Progress.{Progress}
 use Rattle.points_to.specs.Families.{Relation}
 use Rattle.points_to.specs.Rules.{pointer_node, node_if_pointer, function_of, entry_node, result_node, leaves_in, layouts_in}
-use Rattle.points_to.specs.RuleParts.{Each, Then, TakesLeaves, GivesLeaves, TakesLeaf, TakesLike, TakesLayouts, TakesObject}
+use Rattle.points_to.specs.computed.RuleParts.{Each, Then, TakesLeaves, GivesLeaves, TakesLeaf, TakesLike, TakesLayouts, TakesObject}
 use Rattle.points_to.specs.Fits.{IsTableWithin, IsFunctionWithin}
-use Rattle.points_to.specs.Progress.{IsMet, Stands}
+use Rattle.points_to.specs.computed.Progress.{IsMet, Stands}
 use Rattle.points_to.proofs.Each.{got_at, got_within}
 use Rattle.points_to.proofs.Steps.{Lasts, asked_as, idle, kept_after}
 

@@ -6,8 +6,8 @@ use Rattle.core_ir.specs.declared.artifacts.Constraint.{Constraint}
 use Rattle.points_to.specs.declared.rule.Side.{Side}
 use Rattle.points_to.specs.declared.rule.Side.TheVariants as sides
 use Rattle.points_to.specs.Rules.{rule_of}
-use Rattle.points_to.specs.Progress.{AreEmpty}
-use Rattle.points_to.specs.Readers.{Listed, AreReaders, constraint_lists, read_node, entered, reads_target, reads_source}
+use Rattle.points_to.specs.computed.Progress.{AreEmpty}
+use Rattle.points_to.specs.computed.Readers.{Listed, AreReaders, constraint_lists, read_node, entered, reads_target, reads_source}
 use Rattle.points_to.proofs.Each.{got_within}
 
 empty_push : {A : Type 0} (xs : List (List A)) → ((k : ℕ) → get_or xs k [] ≡ []) → (k : ℕ) → get_or (xs ++ [] ∷ []) k [] ≡ []

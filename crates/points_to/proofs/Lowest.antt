@@ -6,7 +6,7 @@ use Rattle.std.proofs.lemmas.Nat.{and_le_l}
 use Rattle.std.proofs.lemmas.Nat.Bits.{bit_at-trailing_zeros, bit_at_clear_same, bit_at_clear_other}
 use Rattle.points_to.specs.declared.block.Block.{Block}
 use Rattle.points_to.specs.Sets.{has, AllFrom}
-use Rattle.points_to.specs.Blocks.{block_members, block_has}
+use Rattle.points_to.specs.computed.Blocks.{block_members, block_has}
 use Rattle.points_to.proofs.Ascending.{same_ascending}
 use Rattle.points_to.proofs.Words.{empty_has}
 use Rattle.points_to.proofs.Members.{block_spells, block_ascending}

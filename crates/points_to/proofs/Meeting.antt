@@ -7,7 +7,7 @@ use Rattle.points_to.specs.declared.rule.Rule.{Rule}
 use Rattle.points_to.specs.declared.rule.Rule.TheVariants as rules
 use Rattle.points_to.specs.Families.{Relation, Has, Flows, family_of}
 use Rattle.points_to.specs.Rules.{Demands, Meets, rule_of, layouts_in}
-use Rattle.points_to.specs.RuleParts.{Each, TakesLeaves, GivesLeaves, TakesParts, TakesLayouts, TakesObject, TakesObjects, GivesEntry, TakesResult}
+use Rattle.points_to.specs.computed.RuleParts.{Each, TakesLeaves, GivesLeaves, TakesParts, TakesLayouts, TakesObject, TakesObjects, GivesEntry, TakesResult}
 use Rattle.points_to.proofs.Copied.{copied_one, copied_all}
 use Rattle.points_to.proofs.Each.{has_place, place_has}
 

@@ -6,7 +6,7 @@ use Rattle.std.proofs.lemmas.Bool.{cases_eq, cases_lt, or_cases, or_right, or_le
 use Rattle.std.proofs.lemmas.List.{get_or_default, length-map, get_or-map}
 use Rattle.points_to.specs.declared.block.Block.{Block}
 use Rattle.points_to.specs.Sets.{has, AllFrom, AllBelow, IsAscending}
-use Rattle.points_to.specs.Blocks.{block_members, members, block_has, blocks_have, indexes}
+use Rattle.points_to.specs.computed.Blocks.{block_members, members, block_has, blocks_have, indexes}
 use Rattle.points_to.proofs.Logic.{and_false, or_assoc, or_false}
 use Rattle.points_to.proofs.Ascending.{from_weaker, from_lacks, at_from, ordered_at, ascending_append, from_append, below_append}
 

@@ -5,7 +5,7 @@ use Rattle.std.proofs.lemmas.Bool.{cases_eq}
 use Rattle.std.proofs.lemmas.List.{append_assoc, append-nil, drop_more, drop_all, take_more, length-map, get_or-map, map-append, map-set, set-get_or, take-map, drop-map, take-append-drop}
 use Rattle.points_to.specs.declared.block.Block.{Block}
 use Rattle.points_to.specs.Sets.{AllBelow, IsAscending}
-use Rattle.points_to.specs.Blocks.{block_has, blocks_have, indexes, AreBlocks, IsMerged}
+use Rattle.points_to.specs.computed.Blocks.{block_has, blocks_have, indexes, AreBlocks, IsMerged}
 use Rattle.points_to.proofs.Logic.{or_assoc, or_false}
 use Rattle.points_to.proofs.Ascending.{below_without, ascending_without, below_with, ascending_with, ascending_insert, below_insert, at_below}
 use Rattle.points_to.proofs.Members.{have_append, index_order}

@@ -13,11 +13,11 @@ use Rattle.points_to.specs.declared.progress.Progress.{Progress}
 use Rattle.points_to.specs.Sets.{has}
 use Rattle.points_to.specs.Families.{Family, Relation, Has, Flows, family_of}
 use Rattle.points_to.specs.Rules.{Demands, IsClosed, rule_of}
-use Rattle.points_to.specs.RuleParts.{Each}
+use Rattle.points_to.specs.computed.RuleParts.{Each}
 use Rattle.points_to.specs.Fits.{Fits, IsConstraintWithin, has_source}
-use Rattle.points_to.specs.Progress.{Kept, Stands, IsMet, IsWithin, Flowed, IsTaken, IsIdle, IsNext, IsStart, IsOnce, done_of, todo_of, known_of, edges_of, room}
-use Rattle.points_to.specs.Readers.{constraint_lists, AreReaders, reads_target, reads_source, read_node}
-use Rattle.points_to.specs.Solving.{Opens, IsAsked, HasMore, HandsOn, AreRuled, IsRun, IsDone}
+use Rattle.points_to.specs.computed.Progress.{Kept, Stands, IsMet, IsWithin, Flowed, IsTaken, IsIdle, IsNext, IsStart, IsOnce, done_of, todo_of, known_of, edges_of, room}
+use Rattle.points_to.specs.computed.Readers.{constraint_lists, AreReaders, reads_target, reads_source, read_node}
+use Rattle.points_to.specs.computed.Solving.{Opens, IsAsked, HasMore, HandsOn, AreRuled, IsRun, IsDone}
 use Rattle.points_to.proofs.Steps.{Lasts, kept_after, and_cases}
 use Rattle.points_to.proofs.Demanding.{demands_fewer}
 use Rattle.points_to.proofs.Lists.{items_at, target_read, source_read, target_reads, source_reads}

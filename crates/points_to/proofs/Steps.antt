@@ -6,8 +6,8 @@ use Rattle.core_ir.specs.declared.artifacts.Constraint.{Constraint}
 use Rattle.points_to.specs.declared.progress.Progress.{Progress}
 use Rattle.points_to.specs.Sets.{has}
 use Rattle.points_to.specs.Families.{Relation, Has, Flows, family_of}
-use Rattle.points_to.specs.Progress.{Stands, Kept, IsMet, done_of, todo_of, known_of, edges_of, IsOnce}
-use Rattle.points_to.specs.RuleParts.{Each}
+use Rattle.points_to.specs.computed.Progress.{Stands, Kept, IsMet, done_of, todo_of, known_of, edges_of, IsOnce}
+use Rattle.points_to.specs.computed.RuleParts.{Each}
 use Rattle.points_to.specs.Fits.{IsTableWithin, IsConstraintWithin}
 use Rattle.points_to.proofs.Each.{each_more, got_at, got_within, has_place, place_has}
 use Rattle.points_to.proofs.Found.{added_has, some_of, none_of, has_push, push_keeps, push_has, push_once}

@@ -4,7 +4,7 @@ use Rattle.std.proofs.lemmas.Bool.{cases_eq, or_left, or_right, true≢false}
 use Rattle.points_to.specs.declared.progress.Progress.{Progress}
 use Rattle.points_to.specs.Sets.{has, IsSet}
 use Rattle.points_to.specs.Families.{Has, family_of}
-use Rattle.points_to.specs.Progress.{Stands, IsTaken, IsOnce, done_of, todo_of, known_of, room}
+use Rattle.points_to.specs.computed.Progress.{Stands, IsTaken, IsOnce, done_of, todo_of, known_of, room}
 use Rattle.points_to.proofs.Logic.{or_false}
 use Rattle.points_to.proofs.Found.{added_has, here_has, other_has, within_list, set_small, room_less}
 use Rattle.points_to.proofs.Steps.{at_here}

@@ -3,7 +3,7 @@ use Rattle.std.proofs.Common.{◌≡◌, ℕ, suc, ◌^◌, ◌<◌, ◌==◌, B
 use Rattle.std.proofs.lemmas.Bool.{or_left, or_right, true≢false}
 use Rattle.points_to.specs.declared.block.Block.{Block}
 use Rattle.points_to.specs.Sets.{has, IsSet}
-use Rattle.points_to.specs.Blocks.{blocks_have, members, AreBlocks}
+use Rattle.points_to.specs.computed.Blocks.{blocks_have, members, AreBlocks}
 use Rattle.points_to.proofs.Ascending.{longer}
 use Rattle.points_to.proofs.Members.{members_have, members_below, members_ascending}
 

@@ -6,7 +6,7 @@ use Rattle.std.proofs.Math.Nat.{pos_of_ne-zero}
 use Rattle.std.proofs.lemmas.Nat.Bits.{bit_at-lt, bit_at_or, bit_at_and, bit_at-pow_same, bit_at-pow_other, bit_at_not, bit_at-trailing_zeros, bit_at-zero}
 use Rattle.std.proofs.lemmas.Bool.{true≢false, cases_eq, and_parts, and_from, not-true}
 use Rattle.points_to.specs.declared.block.Block.{Block}
-use Rattle.points_to.specs.Blocks.{block_has}
+use Rattle.points_to.specs.computed.Blocks.{block_has}
 use Rattle.points_to.proofs.Logic.{and_or, and_false}
 
 max_one : (x y : ℕ) → x < 2 → y < 2 → (max x y == 1) ≡ ((x == 1) || (y == 1))

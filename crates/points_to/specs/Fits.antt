@@ -6,7 +6,7 @@ use Rattle.core_ir.specs.declared.artifacts.Constraint.{Constraint}
 use Rattle.points_to.specs.declared.rule.Rule.{Rule}
 use Rattle.points_to.specs.declared.rule.Rule.TheVariants as rules
 use Rattle.points_to.specs.Rules.{rule_of}
-use Rattle.points_to.specs.RuleParts.{Each, Then}
+use Rattle.points_to.specs.computed.RuleParts.{Each, Then}
 
 -- a function's entry registers and its result are among the nodes
 pub record IsFunctionWithin (nodes : ℕ) (function : FunctionNodes) : Type 0 where

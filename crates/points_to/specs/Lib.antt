@@ -1,10 +1,6 @@
 pub mod Sets
-pub mod Blocks
 pub mod Families
 pub mod Rules
-pub mod RuleParts
 pub mod Named
 pub mod Fits
-pub mod Progress
-pub mod Readers
-pub mod Solving
+pub mod computed

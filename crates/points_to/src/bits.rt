@@ -16,7 +16,7 @@ pub struct Bits {
 
 impl Model for Bits {
     ghost use Rattle.std.specs.Prelude.{List, ℕ};
-    ghost use Rattle.points_to.specs.Blocks.{members, AreBlocks};
+    ghost use Rattle.points_to.specs.computed.Blocks.{members, AreBlocks};
 
     ghost Value = { List ℕ };
 

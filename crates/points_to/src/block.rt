@@ -1,6 +1,6 @@
 ghost use Rattle.std.specs.Prelude.{◌≡◌, ℕ, ◌+◌, ◌*◌, ◌/◌, ◌%◌, ◌^◌, ◌<◌, ◌==◌, ◌||◌, bit_or, ◌++◌, OnOk, true, false};
 ghost use Rattle.std.specs.Int.{bit_at};
-ghost use Rattle.points_to.specs.Blocks.{block_has, block_members};
+ghost use Rattle.points_to.specs.computed.Blocks.{block_has, block_members};
 
 use sv_base::NoMemory;
 

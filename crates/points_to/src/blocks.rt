@@ -1,7 +1,7 @@
 //! Lists of blocks in ascending order.
 ghost use Rattle.std.specs.Prelude.{◌≡◌, ℕ, ◌+◌, ◌-◌, ◌*◌, ◌/◌, ◌%◌, ◌^◌, ◌<◌, ◌≤◌, ◌==◌, ◌&&◌, ◌||◌, ◌++◌, ◌↔◌, IsTrue, length, not, false, true, slice_get, slice_index_or, vec_len, vec_capacity, IfOk, OnOk, OnErr, take, drop};
 ghost use Rattle.std.specs.Int.{bit_at};
-ghost use Rattle.points_to.specs.Blocks.{AreBlocks, IsMerged, block_has, blocks_have, members};
+ghost use Rattle.points_to.specs.computed.Blocks.{AreBlocks, IsMerged, block_has, blocks_have, members};
 
 use crate::block;
 use crate::block::Block;

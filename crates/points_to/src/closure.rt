@@ -4,7 +4,7 @@ ghost use Rattle.core_ir.specs.Plain.{lists_of};
 ghost use Rattle.points_to.specs.Sets.{has};
 ghost use Rattle.points_to.specs.Families.{Family, Has, Flows, family_of};
 ghost use Rattle.points_to.specs.Rules.{Meets, IsClosed};
-ghost use Rattle.points_to.specs.RuleParts.{Each, TakesLeaves, GivesLeaves, TakesParts, TakesLeaf, TakesLike, TakesLayouts, TakesObject, TakesObjects, GivesEntry, TakesResult};
+ghost use Rattle.points_to.specs.computed.RuleParts.{Each, TakesLeaves, GivesLeaves, TakesParts, TakesLeaf, TakesLike, TakesLayouts, TakesObject, TakesObjects, GivesEntry, TakesResult};
 
 use crate::rule::Rule;
 use crate::{rule, table};

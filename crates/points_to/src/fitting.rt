@@ -1,6 +1,6 @@
 //! Whether the nodes of constraints and of a class table are in range.
 ghost use Rattle.std.specs.Prelude.{◌≡◌, ℕ, ◌<◌, ◌↔◌, IsTrue};
-ghost use Rattle.points_to.specs.RuleParts.{Each, Then};
+ghost use Rattle.points_to.specs.computed.RuleParts.{Each, Then};
 ghost use Rattle.points_to.specs.Fits.{Fits, IsFunctionWithin, IsTableWithin, IsConstraintWithin};
 
 use crate::rule;

@@ -1,8 +1,8 @@
 //! Edges and members that a constraint demands for one or two members of its sets.
 ghost use Rattle.std.specs.Prelude.{◌≡◌, ◌<◌, length, OnOk};
-ghost use Rattle.points_to.specs.RuleParts.{Each, Then, TakesLeaves, GivesLeaves, TakesParts, TakesLike, TakesLayouts, TakesObject, TakesObjects};
+ghost use Rattle.points_to.specs.computed.RuleParts.{Each, Then, TakesLeaves, GivesLeaves, TakesParts, TakesLike, TakesLayouts, TakesObject, TakesObjects};
 ghost use Rattle.points_to.specs.Fits.{IsTableWithin};
-ghost use Rattle.points_to.specs.Progress.{Stands, IsMet};
+ghost use Rattle.points_to.specs.computed.Progress.{Stands, IsMet};
 
 use crate::progress::Progress;
 use crate::table;

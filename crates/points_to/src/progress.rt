@@ -2,7 +2,7 @@
 ghost use Rattle.std.specs.Prelude.{◌≡◌, ℕ, ◌<◌, ◌==◌, true, false, [], ◌∷◌, ◌++◌, length, OnOk, IfOk};
 ghost use Rattle.points_to.specs.Sets.{has};
 ghost use Rattle.points_to.specs.Families.{Has};
-ghost use Rattle.points_to.specs.Progress.{done_of, edges_of, AreEmpty, IsStart, Stands, IsMet, IsNext};
+ghost use Rattle.points_to.specs.computed.Progress.{done_of, edges_of, AreEmpty, IsStart, Stands, IsMet, IsNext};
 
 use crate::bits::Bits;
 use std::alloc::Global;

@@ -3,10 +3,10 @@ ghost use Rattle.std.specs.Prelude.{◌≡◌, ◌<◌, true, length, OnOk, ℕ}
 ghost use Rattle.points_to.specs.Sets.{has};
 ghost use Rattle.points_to.specs.Families.{Has};
 ghost use Rattle.points_to.specs.Rules.{Demands, rule_of};
-ghost use Rattle.points_to.specs.RuleParts.{Each, TakesObject, TakesObjects};
+ghost use Rattle.points_to.specs.computed.RuleParts.{Each, TakesObject, TakesObjects};
 ghost use Rattle.points_to.specs.Fits.{IsTableWithin, IsConstraintWithin};
-ghost use Rattle.points_to.specs.Progress.{Stands, IsMet, done_of};
-ghost use Rattle.points_to.specs.Readers.{reads_target, reads_source};
+ghost use Rattle.points_to.specs.computed.Progress.{Stands, IsMet, done_of};
+ghost use Rattle.points_to.specs.computed.Readers.{reads_target, reads_source};
 
 use crate::progress::Progress;
 use crate::rule::Rule;

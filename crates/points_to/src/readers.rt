@@ -1,8 +1,8 @@
 //! Which constraints read the set of a node.
 ghost use Rattle.std.specs.Prelude.{◌≡◌, ℕ, ◌<◌, Some, length, IfOk, OnOk};
-ghost use Rattle.points_to.specs.RuleParts.{Each, Then};
-ghost use Rattle.points_to.specs.Progress.{AreEmpty};
-ghost use Rattle.points_to.specs.Readers.{read_node, constraint_lists, entered, AreReaders};
+ghost use Rattle.points_to.specs.computed.RuleParts.{Each, Then};
+ghost use Rattle.points_to.specs.computed.Progress.{AreEmpty};
+ghost use Rattle.points_to.specs.computed.Readers.{read_node, constraint_lists, entered, AreReaders};
 
 use crate::rule;
 use crate::rule::Side;

@@ -1,7 +1,7 @@
 ghost use Rattle.std.specs.Prelude.{◌≡◌};
 ghost use Rattle.points_to.specs.Rules.{rule_of};
 ghost use Rattle.points_to.specs.Fits.{uses_table, has_source};
-ghost use Rattle.points_to.specs.Readers.{reads_target, reads_source, read_node};
+ghost use Rattle.points_to.specs.computed.Readers.{reads_target, reads_source, read_node};
 
 use core_ir::Constraint;
 

@@ -6,11 +6,11 @@ ghost use Rattle.points_to.specs.Sets.{has, IsSet};
 ghost use Rattle.points_to.specs.Families.{Family, Has, family_of};
 ghost use Rattle.points_to.specs.Named.{NamesOnly};
 ghost use Rattle.points_to.specs.Rules.{IsClosed, rule_of};
-ghost use Rattle.points_to.specs.RuleParts.{Each};
+ghost use Rattle.points_to.specs.computed.RuleParts.{Each};
 ghost use Rattle.points_to.specs.Fits.{Fits, IsConstraintWithin, has_source};
-ghost use Rattle.points_to.specs.Progress.{Stands, IsMet, Flowed, done_of};
-ghost use Rattle.points_to.specs.Readers.{AreReaders, constraint_lists, reads_target, reads_source};
-ghost use Rattle.points_to.specs.Solving.{Opens, IsAsked, HandsOn, AreRuled, IsDone};
+ghost use Rattle.points_to.specs.computed.Progress.{Stands, IsMet, Flowed, done_of};
+ghost use Rattle.points_to.specs.computed.Readers.{AreReaders, constraint_lists, reads_target, reads_source};
+ghost use Rattle.points_to.specs.computed.Solving.{Opens, IsAsked, HandsOn, AreRuled, IsDone};
 
 use crate::bits::Bits;
 use crate::progress::Progress;

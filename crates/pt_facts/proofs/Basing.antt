@@ -1,7 +1,7 @@
 -- The nodes of the first registers of functions, one after another.
 use Rattle.std.proofs.Common.{◌≡◌, ℕ, zero, suc, ◌+◌, ◌<◌, ◌≤◌, ◌^◌, List, [], ◌∷◌, length, slice_index, Some, None, slice_get, refl, ap, arith}
 use Rattle.core_ir.specs.declared.program.Function.{Function}
-use Rattle.pt_facts.specs.Bases.{bases_from}
+use Rattle.pt_facts.specs.computed.Bases.{bases_from}
 use Rattle.pt_facts.specs.Nodes.{base_of, register_count, registers_of}
 
 none_some : {A B : Type 0} (x : A) → None ≡ Some x → B

@@ -1,3 +1,3 @@
 pub mod Nodes
 pub mod Facts
-pub mod Bases
+pub mod computed

@@ -1,5 +1,5 @@
 ghost use Rattle.std.specs.Prelude.{◌≡◌, ◌<◌, ◌+◌, ◌++◌, ◌^◌, IfOk, OnOk, Some, slice_get};
-ghost use Rattle.pt_facts.specs.Bases.{IsCaller};
+ghost use Rattle.pt_facts.specs.computed.Bases.{IsCaller};
 ghost use Rattle.pt_facts.specs.Facts.{argument_facts, call_facts, direct_facts, made, passed_facts, return_facts, set_facts, step_facts, through_facts};
 ghost use Rattle.pt_facts.specs.Nodes.{base_of, node_of_some, register_count};
 

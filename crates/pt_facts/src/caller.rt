@@ -1,5 +1,5 @@
 ghost use Rattle.std.specs.Prelude.{◌≡◌};
-ghost use Rattle.pt_facts.specs.Bases.{IsCaller};
+ghost use Rattle.pt_facts.specs.computed.Bases.{IsCaller};
 ghost use Rattle.pt_facts.specs.Nodes.{node_of, node_of_some, operand_node};
 
 use crate::nodes::{node_of, node_of_some, operand_node};

@@ -3,7 +3,7 @@ ghost use Rattle.std.specs.List.Sorted.{IsStrictlySortedBy};
 ghost use Rattle.core_ir.specs.declared.artifacts.Constraint.{Constraint};
 ghost use Rattle.core_ir.specs.Constraints.{constraint_cmp};
 ghost use Rattle.core_ir.specs.Order.{text_order};
-ghost use Rattle.pt_facts.specs.Bases.{IsCaller, bases_from};
+ghost use Rattle.pt_facts.specs.computed.Bases.{IsCaller, bases_from};
 ghost use Rattle.pt_facts.specs.Facts.{body_facts, facts_of, initial_facts, step_facts};
 ghost use Rattle.pt_facts.specs.Nodes.{base_of, function_count, register_count, registers_of};
 

@@ -1,5 +1,5 @@
 ghost use Rattle.std.specs.Prelude.{◌≡◌, ◌<◌, ◌≤◌, ◌+◌, ◌^◌, IfOk, length};
-ghost use Rattle.pt_facts.specs.Bases.{bases_from};
+ghost use Rattle.pt_facts.specs.computed.Bases.{bases_from};
 ghost use Rattle.pt_facts.specs.Nodes.{base_of, member_of, node_if_pointer, node_of, node_of_some, operand_node, register_count, registers_of};
 
 use core_ir::{Function, Leaf, Operand};

@@ -7,7 +7,7 @@ use Rattle.first_form.specs.Form.{IsForm}
 use Rattle.first_form.proofs.Both.{one_program}
 use Rattle.survey.specs.Words.{Asked, only_one, only_file}
 use Rattle.survey.specs.Colours.{lines_of, report, status}
-use Rattle.survey.specs.Endings.{Source, IsFirst, AllShort, AnswersAny, AnswersFile, AnswersFirst, Answered, only_source}
+use Rattle.survey.specs.computed.Endings.{Source, IsFirst, AllShort, AnswersAny, AnswersFile, AnswersFirst, Answered, only_source}
 use Rattle.survey.specs.declared.answer.Answer.{Answer}
 use Rattle.survey.specs.declared.answer.Answer.TheVariants as answers
 

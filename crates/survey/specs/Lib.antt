@@ -1,6 +1,5 @@
 pub mod Words
-pub mod Asking
 pub mod Colours
 pub mod Sound
 pub mod Outcome
-pub mod Endings
+pub mod computed

@@ -1,6 +1,6 @@
 ghost use Rattle.std.specs.Prelude.{◌≡◌, option_map};
-ghost use Rattle.survey.specs.Asking.{asking};
-ghost use Rattle.survey.specs.Endings.{Answered, AnswersFirst, AllShort, source_of, sources_of, only_source};
+ghost use Rattle.survey.specs.computed.Asking.{asking};
+ghost use Rattle.survey.specs.computed.Endings.{Answered, AnswersFirst, AllShort, source_of, sources_of, only_source};
 
 use crate::answer::Answer;
 use crate::asked::Asked;

@@ -1,5 +1,5 @@
 ghost use Rattle.std.specs.Prelude.{◌≡◌};
-ghost use Rattle.survey.specs.Endings.{complaint_text, status_number};
+ghost use Rattle.survey.specs.computed.Endings.{complaint_text, status_number};
 
 /// How a call ends. The texts are those that are told.
 #[derive(Drop)]

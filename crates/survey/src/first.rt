@@ -1,7 +1,7 @@
 ghost use Rattle.std.specs.Prelude.{◌≡◌, ◌≤◌, length, IfOk};
 ghost use Rattle.sv_base.specs.declared.limits.TheConstants.{FILE_BYTES};
 ghost use Rattle.survey.specs.Colours.{report, status};
-ghost use Rattle.survey.specs.Endings.{AnswersFile};
+ghost use Rattle.survey.specs.computed.Endings.{AnswersFile};
 
 use crate::answer::Answer;
 use crate::colours::lines_of;

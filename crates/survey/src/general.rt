@@ -1,5 +1,5 @@
 ghost use Rattle.std.specs.Prelude.{◌≡◌, true, IfOk};
-ghost use Rattle.survey.specs.Endings.{AnswersAny};
+ghost use Rattle.survey.specs.computed.Endings.{AnswersAny};
 ghost use Rattle.survey.specs.Outcome.{IsReport, IsFaultLine};
 ghost use Rattle.sv_base.specs.Faults.{IsListed};
 

@@ -1,8 +1,8 @@
 ghost use Rattle.std.specs.Prelude.{◌≡◌, ◌≤◌, length, IfOk, IfErr, OnOk};
 ghost use Rattle.sv_base.specs.Faults.{IsListed};
 ghost use Rattle.sv_outside.specs.Outside.{counted};
-ghost use Rattle.survey.specs.Asking.{asking};
-ghost use Rattle.survey.specs.Endings.{IsRefusal, IsUnread, Stands, StopsOne, source_of, sources_of, AllStand, Stopped};
+ghost use Rattle.survey.specs.computed.Asking.{asking};
+ghost use Rattle.survey.specs.computed.Endings.{IsRefusal, IsUnread, Stands, StopsOne, source_of, sources_of, AllStand, Stopped};
 ghost use Rattle.survey.specs.Outcome.{loads_after};
 
 use crate::asked::Asked;

@@ -1,7 +1,7 @@
 ghost use Rattle.std.specs.Prelude.{◌≡◌, ◌<◌, length, IfOk};
 ghost use Rattle.sv_base.specs.Faults.{IsListed};
 ghost use Rattle.survey.specs.Outcome.{Tells, IsFaultLine, cannot_read_text};
-ghost use Rattle.survey.specs.Endings.{complaint_text};
+ghost use Rattle.survey.specs.computed.Endings.{complaint_text};
 
 use crate::ending::{Ending, complaint};
 use report::fault_text;

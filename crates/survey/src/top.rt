@@ -2,10 +2,10 @@ ghost use Rattle.std.specs.Prelude.{◌≡◌, ◌≢◌, ◌⊎◌, ℕ, List, 
 ghost use Rattle.first_form.specs.declared.program.Program.{Program as Checked};
 ghost use Rattle.sv_outside.specs.Outside.{Rose};
 ghost use Rattle.survey.specs.Words.{texts, asked_of};
-ghost use Rattle.survey.specs.Asking.{asking};
+ghost use Rattle.survey.specs.computed.Asking.{asking};
 ghost use Rattle.survey.specs.Colours.{report};
 ghost use Rattle.survey.specs.Outcome.{IsStatus, IsReported, IsFirstForm, IsTooLarge, Reports, ReportsSound, CutsOff, GainsFront, Gives, Loads, Tells, Complains};
-ghost use Rattle.survey.specs.Endings.{Ended, PutAs, status_number};
+ghost use Rattle.survey.specs.computed.Endings.{Ended, PutAs, status_number};
 
 use crate::answer::Answer;
 use crate::answering::answer_of;

@@ -1,7 +1,7 @@
 -- The registers of one cluster go to another.
 use Rattle.std.proofs.Common.{◌≡◌, ◌≢◌, ℕ, zero, suc, ◌+◌, Bool, true, false, cond, ◌||◌, eqb, ◌==◌, List, [], ◌∷◌, length, slice_get, Option, Some, None, option_map, refl, sym, ap, ◌∙◌, arith, eq-eqb, ne_eqb, eqb-true}
 use Rattle.var_clusters.specs.Clusters.{places_from, moved}
-use Rattle.var_clusters.specs.Partition.{is_first}
+use Rattle.var_clusters.specs.computed.Partition.{is_first}
 
 -- ---- one register
 

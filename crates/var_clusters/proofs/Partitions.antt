@@ -7,7 +7,7 @@ use Rattle.std.proofs.lemmas.List.Folds.{list_any-append, list_any_at}
 use Rattle.std.proofs.lemmas.List.FromFn.{get_or-range_with_len, get_or-map-range_with_len}
 use Rattle.std.proofs.lemmas.Option.{slice_get-get_or, slice_get_past}
 use Rattle.var_clusters.specs.Clusters.{places_from, size, moved}
-use Rattle.var_clusters.specs.Partition.{AreLists, is_first, listed, placed}
+use Rattle.var_clusters.specs.computed.Partition.{AreLists, is_first, listed, placed}
 use Rattle.var_clusters.proofs.Ordered.{has}
 use Rattle.var_clusters.proofs.Moves.{or_false, moved_low, moved_high, moved_other, size_low, size_high, size_other}
 

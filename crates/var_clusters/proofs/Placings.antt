@@ -7,7 +7,7 @@ use Rattle.core_ir.specs.Plain.{lists_of}
 use Rattle.var_clusters.specs.Clusters.{places_from, members, size, has_members, join, united_at, moved, firsts_of, clusters_of}
 use Rattle.core_ir.specs.declared.program.Function.{Function}
 use Rattle.var_clusters.specs.Pairs.{Pair, pairs}
-use Rattle.var_clusters.specs.Partition.{AreLists}
+use Rattle.var_clusters.specs.computed.Partition.{AreLists}
 use Rattle.var_clusters.proofs.Partitions.{range_more, range_length, item_listed}
 
 pub pushed_empty : (lists : List (Vec ℕ Global)) (one : Vec ℕ Global) (r : ℕ) → lists_of lists ≡ map (members []) (range_with_len 0 r) → one.items ≡ [] → lists_of (lists ++ one ∷ []) ≡ map (members []) (range_with_len 0 (r + 1))

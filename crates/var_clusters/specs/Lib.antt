@@ -1,3 +1,3 @@
 pub mod Pairs
 pub mod Clusters
-pub mod Partition
+pub mod computed

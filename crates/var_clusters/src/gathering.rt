@@ -3,7 +3,7 @@ ghost use Rattle.std.specs.List.{fold, range_with_len};
 ghost use Rattle.core_ir.specs.BoundsFit.{ClustersFit};
 ghost use Rattle.core_ir.specs.Plain.{lists_of};
 ghost use Rattle.var_clusters.specs.Clusters.{clusters_of, has_members, join, members};
-ghost use Rattle.var_clusters.specs.Partition.{IsPartition};
+ghost use Rattle.var_clusters.specs.computed.Partition.{IsPartition};
 
 use crate::pairs::pairs;
 use crate::partition::Partition;

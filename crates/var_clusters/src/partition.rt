@@ -2,7 +2,7 @@ ghost use Rattle.std.specs.Prelude.{◌≡◌, ◌≢◌, ◌<◌, IfOk, OnOk, A
 ghost use Rattle.std.specs.List.{fold, range_with_len};
 ghost use Rattle.core_ir.specs.Plain.{lists_of};
 ghost use Rattle.var_clusters.specs.Clusters.{moved, join};
-ghost use Rattle.var_clusters.specs.Partition.{IsPartition, placed};
+ghost use Rattle.var_clusters.specs.computed.Partition.{IsPartition, placed};
 
 use std::alloc::Global;
 use std::mem;

@@ -1,5 +1,5 @@
 use Rattle.std.proofs.Common.{None, ◌≡◌, ◌-◌}
-use Rattle.artifact_codec.specs.Checking.{past_in_order, next_constraint}
+use Rattle.artifact_codec.specs.computed.Checking.{past_in_order, next_constraint}
 use Rattle.artifact_codec.proofs.checking.constraints_in_order.Given as goal
 
 abbrev pub invariant-loop : goal.invariant-loop

@@ -1,5 +1,5 @@
 use Rattle.std.proofs.Common.{◌≡◌, ◌-◌}
-use Rattle.artifact_codec.specs.Checking.{past_in_order, next_number}
+use Rattle.artifact_codec.specs.computed.Checking.{past_in_order, next_number}
 use Rattle.artifact_codec.proofs.checking.numbers_in_order.Given as goal
 
 abbrev pub invariant-loop : goal.invariant-loop

@@ -1,5 +1,5 @@
 use Rattle.std.proofs.lemmas.Result.{err_from_is_err_and}
-use Rattle.artifact_codec.specs.Checking.{past_all, set_past}
+use Rattle.artifact_codec.specs.computed.Checking.{past_all, set_past}
 use Rattle.artifact_codec.proofs.Loops.{all_goes_on, all_ends, all_is_done}
 use Rattle.artifact_codec.proofs.checking.past_sets.Goals as goal
 

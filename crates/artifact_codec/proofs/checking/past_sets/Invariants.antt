@@ -1,5 +1,5 @@
 use Rattle.std.proofs.Common.{◌≡◌, ◌-◌}
-use Rattle.artifact_codec.specs.Checking.{past_all, set_past}
+use Rattle.artifact_codec.specs.computed.Checking.{past_all, set_past}
 use Rattle.artifact_codec.proofs.checking.past_sets.Given as goal
 
 abbrev pub invariant-loop : goal.invariant-loop

@@ -1,6 +1,6 @@
 use Rattle.std.proofs.Common.{None}
 use Rattle.std.proofs.lemmas.Result.{err_from_is_err_and}
-use Rattle.artifact_codec.specs.Checking.{past_in_order, next_call}
+use Rattle.artifact_codec.specs.computed.Checking.{past_in_order, next_call}
 use Rattle.artifact_codec.proofs.Loops.{order_goes_on, order_ends, order_is_done}
 use Rattle.artifact_codec.proofs.checking_summary.calls_in_order.Goals as goal
 

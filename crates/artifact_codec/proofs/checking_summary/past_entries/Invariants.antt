@@ -1,5 +1,5 @@
 use Rattle.std.proofs.Common.{◌≡◌, ◌-◌}
-use Rattle.artifact_codec.specs.Checking.{past_all, entry_past}
+use Rattle.artifact_codec.specs.computed.Checking.{past_all, entry_past}
 use Rattle.artifact_codec.proofs.checking_summary.past_entries.Given as goal
 
 abbrev pub invariant-loop : goal.invariant-loop

@@ -1,5 +1,5 @@
 use Rattle.std.proofs.Common.{None, ◌≡◌, ◌-◌}
-use Rattle.artifact_codec.specs.Checking.{past_in_order, next_write}
+use Rattle.artifact_codec.specs.computed.Checking.{past_in_order, next_write}
 use Rattle.artifact_codec.proofs.checking_summary.writes_in_order.Given as goal
 
 abbrev pub invariant-loop : goal.invariant-loop

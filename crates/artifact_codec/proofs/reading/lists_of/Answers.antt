@@ -2,7 +2,7 @@ use Rattle.std.proofs.Common.{◌≡◌, ◌++◌, ◌∷◌, []}
 use Rattle.std.proofs.lemmas.Result.{err_from_is_err_and}
 use Rattle.std.proofs.lemmas.List.{map_push}
 use Rattle.core_ir.specs.Plain.{lists_of}
-use Rattle.artifact_codec.specs.Reading.{items_at, numbers_at}
+use Rattle.artifact_codec.specs.computed.Reading.{items_at, numbers_at}
 use Rattle.artifact_codec.proofs.Loops.{goes_on, ends, is_done}
 use Rattle.artifact_codec.proofs.reading.lists_of.Goals as goal
 

@@ -1,6 +1,6 @@
 use Rattle.std.proofs.Common.{◌≡◌, ◌-◌}
 use Rattle.core_ir.specs.Plain.{lists_of}
-use Rattle.artifact_codec.specs.Reading.{items_at, numbers_at}
+use Rattle.artifact_codec.specs.computed.Reading.{items_at, numbers_at}
 use Rattle.artifact_codec.proofs.Loops.{with_front}
 use Rattle.artifact_codec.proofs.reading.lists_of.Given as goal
 

@@ -1,6 +1,6 @@
 use Rattle.std.proofs.lemmas.Result.{err_from_is_err_and}
 use Rattle.artifact_codec.specs.declared.refusal.Refusal.TheVariants as refusals
-use Rattle.artifact_codec.specs.Reading.{items_at, number_at}
+use Rattle.artifact_codec.specs.computed.Reading.{items_at, number_at}
 use Rattle.artifact_codec.proofs.Loops.{goes_on, ends, is_done}
 use Rattle.artifact_codec.proofs.reading.numbers_of.Goals as goal
 

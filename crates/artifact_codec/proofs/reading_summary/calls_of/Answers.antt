@@ -2,7 +2,7 @@ use Rattle.std.proofs.Common.{map, ◌≡◌, ◌++◌, ◌∷◌, []}
 use Rattle.std.proofs.lemmas.Result.{err_from_is_err_and}
 use Rattle.std.proofs.lemmas.List.{map_push}
 use Rattle.core_ir.specs.Plain.{call_of}
-use Rattle.artifact_codec.specs.Reading.{items_at, call_at}
+use Rattle.artifact_codec.specs.computed.Reading.{items_at, call_at}
 use Rattle.artifact_codec.proofs.Loops.{goes_on, ends, is_done}
 use Rattle.artifact_codec.proofs.reading_summary.calls_of.Goals as goal
 

@@ -1,6 +1,6 @@
 use Rattle.std.proofs.Common.{map, ◌≡◌, ◌-◌}
 use Rattle.core_ir.specs.Plain.{call_of}
-use Rattle.artifact_codec.specs.Reading.{items_at, call_at}
+use Rattle.artifact_codec.specs.computed.Reading.{items_at, call_at}
 use Rattle.artifact_codec.proofs.Loops.{with_front}
 use Rattle.artifact_codec.proofs.reading_summary.calls_of.Given as goal
 

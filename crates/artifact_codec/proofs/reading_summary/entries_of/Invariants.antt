@@ -1,5 +1,5 @@
 use Rattle.std.proofs.Common.{◌≡◌, ◌-◌}
-use Rattle.artifact_codec.specs.Reading.{items_at, entry_at}
+use Rattle.artifact_codec.specs.computed.Reading.{items_at, entry_at}
 use Rattle.artifact_codec.proofs.Loops.{with_front}
 use Rattle.artifact_codec.proofs.reading_summary.entries_of.Given as goal
 

@@ -1,6 +1,6 @@
 use Rattle.std.proofs.Common.{◌≡◌, ◌-◌}
 use Rattle.core_ir.specs.Plain.{all_bounds}
-use Rattle.artifact_codec.specs.Reading.{items_at, bounds_at}
+use Rattle.artifact_codec.specs.computed.Reading.{items_at, bounds_at}
 use Rattle.artifact_codec.proofs.Loops.{with_front}
 use Rattle.artifact_codec.proofs.reading_summary.matrices_of.Given as goal
 

@@ -1,5 +1,5 @@
 use Rattle.std.proofs.Common.{arith}
-use Rattle.artifact_codec.specs.Checking.{is_spelling}
+use Rattle.artifact_codec.specs.computed.Checking.{is_spelling}
 use Rattle.artifact_codec.proofs.Whole.{spells_says, says_spells, true_iff}
 use Rattle.artifact_codec.proofs.spelled.spells.Goals as goal
 

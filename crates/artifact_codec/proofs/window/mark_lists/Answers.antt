@@ -1,5 +1,5 @@
 use Rattle.std.proofs.lemmas.Result.{err_from_is_err_and}
-use Rattle.artifact_codec.specs.Windows.{mark_lists}
+use Rattle.artifact_codec.specs.computed.Windows.{mark_lists}
 use Rattle.artifact_codec.proofs.Marks.{list_missing, list_marked, lists_done}
 use Rattle.artifact_codec.proofs.window.mark_lists.Goals as goal
 

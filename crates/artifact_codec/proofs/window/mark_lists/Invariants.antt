@@ -1,5 +1,5 @@
 use Rattle.std.proofs.Common.{◌≡◌, ◌-◌}
-use Rattle.artifact_codec.specs.Windows.{mark_lists}
+use Rattle.artifact_codec.specs.computed.Windows.{mark_lists}
 use Rattle.artifact_codec.proofs.window.mark_lists.Given as goal
 
 abbrev pub invariant-loop : goal.invariant-loop

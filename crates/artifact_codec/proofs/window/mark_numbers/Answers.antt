@@ -1,5 +1,5 @@
 use Rattle.std.proofs.lemmas.Result.{err_from_is_err_and}
-use Rattle.artifact_codec.specs.Windows.{mark_numbers}
+use Rattle.artifact_codec.specs.computed.Windows.{mark_numbers}
 use Rattle.artifact_codec.proofs.Marks.{number_missing, number_twice, number_marked, numbers_done}
 use Rattle.artifact_codec.proofs.window.mark_numbers.Goals as goal
 

@@ -1,5 +1,5 @@
 use Rattle.std.proofs.Common.{◌≡◌, ◌-◌}
-use Rattle.artifact_codec.specs.Windows.{mark_numbers}
+use Rattle.artifact_codec.specs.computed.Windows.{mark_numbers}
 use Rattle.artifact_codec.proofs.window.mark_numbers.Given as goal
 
 abbrev pub invariant-loop : goal.invariant-loop

@@ -1,6 +1,6 @@
 use Rattle.std.proofs.Common.{sym, ◌∙◌}
 use Rattle.std.proofs.lemmas.Result.{err_from_is_err_and}
-use Rattle.artifact_codec.specs.Windows.{registers}
+use Rattle.artifact_codec.specs.computed.Windows.{registers}
 use Rattle.artifact_codec.proofs.Marks.{counted_marked}
 use Rattle.artifact_codec.proofs.Advance.{ok, err}
 use Rattle.artifact_codec.proofs.window.next_low.Goals as goal

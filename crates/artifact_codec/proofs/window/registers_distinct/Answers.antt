@@ -1,5 +1,5 @@
 use Rattle.std.proofs.Common.{sym, subst, ◌∙◌}
-use Rattle.artifact_codec.specs.Windows.{registers, Known}
+use Rattle.artifact_codec.specs.computed.Windows.{registers, Known}
 use Rattle.artifact_codec.proofs.Advance.{by_registers, at_end}
 use Rattle.artifact_codec.proofs.window.registers_distinct.Goals as goal
 

@@ -1,4 +1,4 @@
-use Rattle.artifact_codec.specs.Windows.{registers, Known}
+use Rattle.artifact_codec.specs.computed.Windows.{registers, Known}
 use Rattle.artifact_codec.proofs.Advance.{left}
 use Rattle.artifact_codec.proofs.window.registers_distinct.Given as goal
 

@@ -1,7 +1,7 @@
 use Rattle.std.proofs.Common.{◌≡◌, ◌≤◌, ◌||◌, ◌-◌, length}
 use Rattle.std.specs.List.{list_any}
 use Rattle.c_lexer.specs.Meaning.{is_wrong, is_universal_name}
-use Rattle.c_lexer.specs.Values.{characters_in, all_characters}
+use Rattle.c_lexer.specs.computed.Values.{characters_in, all_characters}
 use Rattle.c_lexer.proofs.character.flaws_in.Given as goal
 
 abbrev pub invariant-loop-turn : goal.invariant-loop-turn

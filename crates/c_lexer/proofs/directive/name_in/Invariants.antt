@@ -1,5 +1,5 @@
 use Rattle.std.proofs.Common.{◌≡◌, drop, false}
-use Rattle.c_lexer.specs.Settings.{with_bytes, name_in}
+use Rattle.c_lexer.specs.computed.Settings.{with_bytes, name_in}
 use Rattle.c_lexer.proofs.directive.name_in.Given as goal
 
 abbrev pub invariant-loop-i : goal.invariant-loop-i

@@ -1,5 +1,5 @@
 use Rattle.std.proofs.Common.{◌≡◌, ◌-◌, length}
-use Rattle.c_lexer.specs.Settings.{only_flags}
+use Rattle.c_lexer.specs.computed.Settings.{only_flags}
 use Rattle.c_lexer.proofs.directive.only_flags.Given as goal
 
 abbrev pub invariant-loop-turn : goal.invariant-loop-turn

@@ -1,6 +1,6 @@
 use Rattle.std.proofs.Common.{◌≡◌, ◌≤◌, ◌-◌, length}
 use Rattle.c_lexer.specs.Spots.{IsWithin}
-use Rattle.c_lexer.specs.Scan.{run, joined, Extends}
+use Rattle.c_lexer.specs.computed.Scan.{run, joined, Extends}
 use Rattle.c_lexer.proofs.lexer.tokens_from.Given as goal
 
 abbrev pub invariant-loop-turn : goal.invariant-loop-turn

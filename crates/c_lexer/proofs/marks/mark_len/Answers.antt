@@ -1,5 +1,5 @@
 use Rattle.std.proofs.Common.{ap, ◌∙◌}
-use Rattle.c_lexer.specs.Marks.{mark_len}
+use Rattle.c_lexer.specs.computed.Marks.{mark_len}
 use Rattle.c_lexer.proofs.Periods.{front_is}
 use Rattle.c_lexer.proofs.marks.mark_len.Goals as goal
 

@@ -1,5 +1,5 @@
 use Rattle.std.proofs.Common.{◌≡◌, ◌+◌, drop}
-use Rattle.c_lexer.specs.Lengths.{number_more}
+use Rattle.c_lexer.specs.computed.Lengths.{number_more}
 use Rattle.c_lexer.proofs.shape.number_more.Given as goal
 
 abbrev pub invariant-loop-i : goal.invariant-loop-i

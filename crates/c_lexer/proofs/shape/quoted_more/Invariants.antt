@@ -1,6 +1,6 @@
 use Rattle.std.proofs.Common.{◌≡◌, ◌+◌, drop, false}
 use Rattle.std.specs.Option.{option_map}
-use Rattle.c_lexer.specs.Lengths.{quoted_more}
+use Rattle.c_lexer.specs.computed.Lengths.{quoted_more}
 use Rattle.c_lexer.proofs.shape.quoted_more.Given as goal
 
 abbrev pub invariant-loop-i : goal.invariant-loop-i

@@ -1,5 +1,5 @@
 use Rattle.std.proofs.Common.{◌≡◌, ◌+◌, false, get_or, drop, ap, sym, ◌∙◌}
-use Rattle.c_lexer.specs.Settings.{closes}
+use Rattle.c_lexer.specs.computed.Settings.{closes}
 use Rattle.c_lexer.proofs.Turning.{close_step}
 use Rattle.c_lexer.proofs.space.close_len.Goals as goal
 

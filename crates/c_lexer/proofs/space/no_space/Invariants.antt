@@ -1,5 +1,5 @@
 use Rattle.std.proofs.Common.{◌≡◌, ◌-◌}
-use Rattle.c_lexer.specs.Settings.{behind_space, no_space}
+use Rattle.c_lexer.specs.computed.Settings.{behind_space, no_space}
 use Rattle.c_lexer.proofs.space.no_space.Given as goal
 
 abbrev pub invariant-loop-turn : goal.invariant-loop-turn

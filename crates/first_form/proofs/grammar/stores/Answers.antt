@@ -1,6 +1,6 @@
 use Rattle.std.proofs.Common.{codes, sym, ◌∙◌}
 use Rattle.std.proofs.lemmas.Result.{err_from_is_err_and}
-use Rattle.first_form.specs.Reading.{first_is, store_at}
+use Rattle.first_form.specs.computed.Reading.{first_is, store_at}
 use Rattle.first_form.proofs.Loops.{fails_too, stops, fails, goes_on, runs_out}
 use Rattle.first_form.proofs.grammar.stores.Goals as goal
 

@@ -1,5 +1,5 @@
 use Rattle.std.proofs.Common.{◌≡◌, ◌-◌, length}
-use Rattle.first_form.specs.Reading.{stores_at}
+use Rattle.first_form.specs.computed.Reading.{stores_at}
 use Rattle.first_form.proofs.Loops.{front_of}
 use Rattle.first_form.proofs.grammar.stores.Given as goal
 

@@ -2,7 +2,7 @@ use Rattle.std.proofs.Common.{◌≡◌, ℕ, ◌+◌, ◌-◌, ◌≤◌, List,
 use Rattle.std.proofs.lemmas.List.{map_push, take_rest}
 use Rattle.std.proofs.lemmas.List.Elements.{All-push}
 use Rattle.first_form.specs.Pieces.{IsInFile, Piece, piece, pieces}
-use Rattle.first_form.specs.Scan.{piece_len, pieces_from}
+use Rattle.first_form.specs.computed.Scan.{piece_len, pieces_from}
 use Rattle.first_form.proofs.Lexing.{with_front, newline_step, space_step, none_step, piece_step, with_more, ends}
 use Rattle.first_form.proofs.lexer.lex.Goals as goal
 

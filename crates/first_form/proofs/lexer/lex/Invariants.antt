@@ -1,6 +1,6 @@
 use Rattle.std.proofs.Common.{length, ◌-◌, ◌≡◌, ◌≤◌, ◌+◌, drop, All}
 use Rattle.first_form.specs.Pieces.{IsInFile, pieces}
-use Rattle.first_form.specs.Scan.{pieces_from}
+use Rattle.first_form.specs.computed.Scan.{pieces_from}
 use Rattle.first_form.proofs.Lexing.{with_front}
 use Rattle.first_form.proofs.lexer.lex.Given as goal
 

@@ -2,7 +2,7 @@ use Rattle.std.proofs.Common.{◌≡◌, ◌++◌, ◌∷◌, [], true, false, �
 use Rattle.std.specs.List.{list_any}
 use Rattle.std.specs.Str.{bytes_eq}
 use Rattle.first_form.specs.Form.{names}
-use Rattle.first_form.specs.Reading.{are_distinct}
+use Rattle.first_form.specs.computed.Reading.{are_distinct}
 use Rattle.first_form.proofs.Distinct.{one_name_more, new_distinct, twice}
 use Rattle.first_form.proofs.names.names_of.Goals as goal
 

@@ -1,6 +1,6 @@
 use Rattle.std.proofs.Common.{◌≡◌, true, take}
 use Rattle.first_form.specs.Form.{names}
-use Rattle.first_form.specs.Reading.{are_distinct}
+use Rattle.first_form.specs.computed.Reading.{are_distinct}
 use Rattle.first_form.proofs.names.names_of.Given as goal
 
 abbrev pub invariant-loop-array : goal.invariant-loop-array

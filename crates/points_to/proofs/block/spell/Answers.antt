@@ -2,7 +2,7 @@ use Rattle.std.proofs.Common.{◌+◌, ◌*◌, ◌^◌, ◌<◌, [], ◌∷◌,
 use Rattle.std.specs.Int.{w64, trailing_zeros}
 use Rattle.std.proofs.Math.Nat.{pos_of_ne-zero}
 use Rattle.std.proofs.lemmas.List.{append_assoc, append-nil}
-use Rattle.points_to.specs.Blocks.{block_members}
+use Rattle.points_to.specs.computed.Blocks.{block_members}
 use Rattle.points_to.proofs.Lowest.{lowest_first, fewer, none_spelled, cleared}
 use Rattle.points_to.proofs.block.spell.Goals as goal
 

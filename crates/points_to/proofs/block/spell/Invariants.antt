@@ -1,5 +1,5 @@
 use Rattle.std.proofs.Common.{◌≡◌, ◌++◌}
-use Rattle.points_to.specs.Blocks.{block_members}
+use Rattle.points_to.specs.computed.Blocks.{block_members}
 use Rattle.points_to.proofs.block.spell.Given as goal
 
 abbrev pub invariant-loop-rest : goal.invariant-loop-rest

@@ -2,7 +2,7 @@ use Rattle.std.proofs.Common.{◌≡◌, get_or, true, ◌∙◌, sym, ap, inl, 
 use Rattle.std.proofs.lemmas.Bool.{cases_lt}
 use Rattle.std.proofs.lemmas.List.{get_or_default}
 use Rattle.points_to.specs.declared.block.Block.{Block}
-use Rattle.points_to.specs.Blocks.{block_has}
+use Rattle.points_to.specs.computed.Blocks.{block_has}
 use Rattle.points_to.proofs.Words.{covered, uncovered}
 use Rattle.points_to.proofs.Members.{some_block, block_in}
 use Rattle.points_to.proofs.blocks.covers.Goals as goal

@@ -1,6 +1,6 @@
 use Rattle.std.proofs.Common.{◌≡◌, ℕ, ◌<◌, true, slice_index_or}
 use Rattle.points_to.specs.declared.block.Block.{Block}
-use Rattle.points_to.specs.Blocks.{block_has, blocks_have}
+use Rattle.points_to.specs.computed.Blocks.{block_has, blocks_have}
 use Rattle.points_to.proofs.blocks.covers.Given as goal
 
 abbrev pub invariant-loop-other : goal.invariant-loop-other

@@ -1,5 +1,5 @@
 use Rattle.std.proofs.Common.{◌≡◌, take}
-use Rattle.points_to.specs.Blocks.{members}
+use Rattle.points_to.specs.computed.Blocks.{members}
 use Rattle.points_to.proofs.blocks.list.Given as goal
 
 abbrev pub invariant-loop-block : goal.invariant-loop-block

@@ -1,5 +1,5 @@
 use Rattle.std.proofs.Common.{◌+◌, ◌-◌, length}
-use Rattle.points_to.specs.Blocks.{IsMerged}
+use Rattle.points_to.specs.computed.Blocks.{IsMerged}
 use Rattle.points_to.proofs.blocks.merge.Given as goal
 
 abbrev pub invariant-loop-i : goal.invariant-loop-i

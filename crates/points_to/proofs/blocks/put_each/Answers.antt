@@ -1,6 +1,6 @@
 use Rattle.std.proofs.Common.{◌||◌, get_or, take, ◌∙◌, sym, ap, arith}
 use Rattle.points_to.specs.declared.block.Block.{Block}
-use Rattle.points_to.specs.Blocks.{block_has, blocks_have}
+use Rattle.points_to.specs.computed.Blocks.{block_has, blocks_have}
 use Rattle.points_to.proofs.Logic.{or_assoc}
 use Rattle.points_to.proofs.Merging.{take_have, index_below}
 use Rattle.points_to.proofs.blocks.put_each.Goals as goal

@@ -1,5 +1,5 @@
 use Rattle.std.proofs.Common.{◌≡◌, ℕ, ◌+◌, ◌-◌, ◌≤◌, ◌||◌, length, take, vec_len, vec_capacity}
-use Rattle.points_to.specs.Blocks.{AreBlocks, blocks_have}
+use Rattle.points_to.specs.computed.Blocks.{AreBlocks, blocks_have}
 use Rattle.points_to.proofs.blocks.put_each.Given as goal
 
 abbrev pub invariant-loop-other : goal.invariant-loop-other

@@ -1,7 +1,7 @@
 use Rattle.std.proofs.Common.{◌||◌, ◌∙◌, sym, ap, arith}
 use Rattle.std.proofs.lemmas.List.{get_or_default}
 use Rattle.points_to.specs.declared.block.Block.{Block}
-use Rattle.points_to.specs.Blocks.{block_has}
+use Rattle.points_to.specs.computed.Blocks.{block_has}
 use Rattle.points_to.proofs.Merging.{put_blocks, put_have, set_blocks, set_have}
 use Rattle.points_to.proofs.blocks.put_reserved.Goals as goal
 use Rattle.points_to.proofs.blocks.put_reserved.Goals.{else-at-len-via-then-at-len+else-index-block, else-at-len-via-else-at-len}

@@ -1,6 +1,6 @@
 use Rattle.std.proofs.Common.{◌∙◌, sym}
 use Rattle.points_to.specs.declared.block.Block.{Block}
-use Rattle.points_to.specs.Blocks.{blocks_have}
+use Rattle.points_to.specs.computed.Blocks.{blocks_have}
 use Rattle.points_to.proofs.Words.{empty_has}
 use Rattle.points_to.proofs.Merging.{lacking_more, lacking_same, next_like, next_none}
 use Rattle.points_to.proofs.blocks.without.Goals as goal

@@ -1,5 +1,5 @@
 use Rattle.std.proofs.Common.{◌≡◌, ℕ, ◌&&◌, ◌++◌, not, take, drop}
-use Rattle.points_to.specs.Blocks.{AreBlocks, blocks_have}
+use Rattle.points_to.specs.computed.Blocks.{AreBlocks, blocks_have}
 use Rattle.points_to.proofs.blocks.without.Given as goal
 
 abbrev pub invariant-loop-block : goal.invariant-loop-block

@@ -2,7 +2,7 @@ use Rattle.std.proofs.Common.{◌≡◌, ℕ, ◌<◌, Some, slice_get}
 use Rattle.core_ir.specs.Plain.{lists_of}
 use Rattle.points_to.specs.Families.{Flows, family_of}
 use Rattle.points_to.specs.Rules.{pointer_node}
-use Rattle.points_to.specs.RuleParts.{Then}
+use Rattle.points_to.specs.computed.RuleParts.{Then}
 use Rattle.points_to.proofs.closure.gives_leaves.Given as goal
 
 abbrev pub invariant-loop-leaf : goal.invariant-loop-leaf

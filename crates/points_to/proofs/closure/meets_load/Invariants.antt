@@ -1,7 +1,7 @@
 use Rattle.std.proofs.Common.{◌≡◌, ℕ, ◌<◌, Some, slice_get}
 use Rattle.core_ir.specs.Plain.{lists_of}
 use Rattle.points_to.specs.Families.{Flows, family_of}
-use Rattle.points_to.specs.RuleParts.{TakesLeaves}
+use Rattle.points_to.specs.computed.RuleParts.{TakesLeaves}
 use Rattle.points_to.proofs.closure.meets_load.Given as goal
 
 abbrev pub invariant-loop-member : goal.invariant-loop-member

@@ -1,7 +1,7 @@
 use Rattle.std.proofs.Common.{◌≡◌, ℕ, ◌<◌, Some, slice_get}
 use Rattle.core_ir.specs.Plain.{lists_of}
 use Rattle.points_to.specs.Families.{Has, family_of}
-use Rattle.points_to.specs.RuleParts.{TakesParts}
+use Rattle.points_to.specs.computed.RuleParts.{TakesParts}
 use Rattle.points_to.proofs.closure.meets_part.Given as goal
 
 abbrev pub invariant-loop-member : goal.invariant-loop-member

@@ -3,7 +3,7 @@ use Rattle.std.proofs.lemmas.Bool.{true≢false}
 use Rattle.core_ir.specs.Plain.{lists_of}
 use Rattle.core_ir.specs.declared.classes.LayoutPart.{LayoutPart}
 use Rattle.points_to.specs.Families.{Flows, family_of}
-use Rattle.points_to.specs.RuleParts.{TakesLayouts}
+use Rattle.points_to.specs.computed.RuleParts.{TakesLayouts}
 use Rattle.points_to.proofs.Each.{each_more, each_all, each_not}
 use Rattle.points_to.proofs.Meeting.{object_is}
 use Rattle.points_to.proofs.closure.takes_object.Goals as goal

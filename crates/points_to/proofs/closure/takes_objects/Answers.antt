@@ -2,7 +2,7 @@ use Rattle.std.proofs.Common.{◌∙◌, sym}
 use Rattle.std.proofs.lemmas.Bool.{true≢false}
 use Rattle.core_ir.specs.Plain.{lists_of}
 use Rattle.points_to.specs.Families.{Flows, family_of}
-use Rattle.points_to.specs.RuleParts.{TakesObject, TakesObjects}
+use Rattle.points_to.specs.computed.RuleParts.{TakesObject, TakesObjects}
 use Rattle.points_to.proofs.Each.{each_more, each_all, each_not}
 use Rattle.points_to.proofs.closure.takes_objects.Goals as goal
 

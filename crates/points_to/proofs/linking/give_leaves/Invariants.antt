@@ -1,7 +1,7 @@
 use Rattle.std.proofs.Common.{Some}
 use Rattle.points_to.specs.Rules.{pointer_node}
 use Rattle.points_to.proofs.Links.{AskedEdge}
-use Rattle.points_to.specs.Progress.{IsMet}
+use Rattle.points_to.specs.computed.Progress.{IsMet}
 use Rattle.points_to.proofs.Steps.{Front}
 use Rattle.points_to.proofs.linking.give_leaves.Given as goal
 

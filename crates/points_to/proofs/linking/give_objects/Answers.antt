@@ -1,5 +1,5 @@
 use Rattle.std.proofs.Common.{get_or, refl}
-use Rattle.points_to.specs.RuleParts.{TakesObject}
+use Rattle.points_to.specs.computed.RuleParts.{TakesObject}
 use Rattle.points_to.proofs.Links.{object_lasts}
 use Rattle.points_to.proofs.Steps.{front_more, front_all}
 use Rattle.points_to.proofs.linking.give_objects.Goals as goal

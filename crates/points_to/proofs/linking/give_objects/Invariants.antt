@@ -1,5 +1,5 @@
-use Rattle.points_to.specs.RuleParts.{TakesObject}
-use Rattle.points_to.specs.Progress.{IsMet}
+use Rattle.points_to.specs.computed.RuleParts.{TakesObject}
+use Rattle.points_to.specs.computed.Progress.{IsMet}
 use Rattle.points_to.proofs.Steps.{Front}
 use Rattle.points_to.proofs.linking.give_objects.Given as goal
 

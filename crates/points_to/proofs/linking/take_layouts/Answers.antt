@@ -1,4 +1,4 @@
-use Rattle.points_to.specs.RuleParts.{TakesLayouts}
+use Rattle.points_to.specs.computed.RuleParts.{TakesLayouts}
 use Rattle.points_to.proofs.Links.{AskedLayout, layout_lasts}
 use Rattle.points_to.proofs.Steps.{front_more, front_all}
 use Rattle.points_to.proofs.linking.take_layouts.Goals as goal

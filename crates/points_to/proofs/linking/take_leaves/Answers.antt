@@ -1,5 +1,5 @@
 use Rattle.std.proofs.Common.{Some, get_or, refl, subst}
-use Rattle.points_to.specs.Progress.{IsMet}
+use Rattle.points_to.specs.computed.Progress.{IsMet}
 use Rattle.points_to.specs.Rules.{leaves_in, pointer_node}
 use Rattle.points_to.proofs.Links.{AskedEdge, edge_lasts, each_of, takes_all}
 use Rattle.points_to.proofs.Steps.{front_more, front_all}

@@ -1,5 +1,5 @@
 use Rattle.std.proofs.Common.{ℕ, Option, get_or, subst, arith}
-use Rattle.points_to.specs.Progress.{IsMet}
+use Rattle.points_to.specs.computed.Progress.{IsMet}
 use Rattle.points_to.specs.Rules.{pointer_node}
 use Rattle.points_to.proofs.Links.{AskedEdge, like_more, like_all}
 use Rattle.points_to.proofs.linking.take_like.Goals as goal

@@ -1,6 +1,6 @@
 use Rattle.std.proofs.Common.{◌≡◌, ℕ, ◌<◌, Some, slice_get}
-use Rattle.points_to.specs.RuleParts.{TakesLeaf}
-use Rattle.points_to.specs.Progress.{IsMet}
+use Rattle.points_to.specs.computed.RuleParts.{TakesLeaf}
+use Rattle.points_to.specs.computed.Progress.{IsMet}
 use Rattle.points_to.proofs.linking.take_like.Given as goal
 
 abbrev pub invariant-loop-place : goal.invariant-loop-place

@@ -1,9 +1,9 @@
 use Rattle.std.proofs.Common.{List, subst}
 use Rattle.core_ir.specs.declared.classes.LayoutPart.{LayoutPart}
 use Rattle.points_to.specs.Families.{Relation}
-use Rattle.points_to.specs.Progress.{IsMet}
+use Rattle.points_to.specs.computed.Progress.{IsMet}
 use Rattle.points_to.specs.Rules.{layouts_in}
-use Rattle.points_to.specs.RuleParts.{Each, TakesObject}
+use Rattle.points_to.specs.computed.RuleParts.{Each, TakesObject}
 use Rattle.points_to.proofs.Links.{each_of, AskedSource, source_lasts}
 use Rattle.points_to.proofs.Steps.{front_more, front_all}
 use Rattle.points_to.proofs.linking.take_object.Goals as goal

@@ -1,7 +1,7 @@
 use Rattle.std.proofs.Common.{get_or, refl}
 use Rattle.core_ir.specs.declared.classes.PartClass.{PartClass}
 use Rattle.points_to.specs.Rules.{parts_in}
-use Rattle.points_to.specs.RuleParts.{TakesParts}
+use Rattle.points_to.specs.computed.RuleParts.{TakesParts}
 use Rattle.points_to.proofs.Links.{AskedPart, part_lasts, each_of}
 use Rattle.points_to.proofs.Steps.{front_more, front_all}
 use Rattle.points_to.proofs.linking.take_parts.Goals as goal

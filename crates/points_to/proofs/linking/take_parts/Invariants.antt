@@ -1,5 +1,5 @@
 use Rattle.points_to.proofs.Links.{AskedPart}
-use Rattle.points_to.specs.Progress.{IsMet}
+use Rattle.points_to.specs.computed.Progress.{IsMet}
 use Rattle.points_to.proofs.Steps.{Front}
 use Rattle.points_to.proofs.linking.take_parts.Given as goal
 

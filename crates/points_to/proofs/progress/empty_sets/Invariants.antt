@@ -1,4 +1,4 @@
-use Rattle.points_to.specs.Progress.{AreEmpty}
+use Rattle.points_to.specs.computed.Progress.{AreEmpty}
 use Rattle.points_to.proofs.progress.empty_sets.Given as goal
 
 abbrev pub invariant-loop : goal.invariant-loop

@@ -1,6 +1,6 @@
 use Rattle.std.proofs.Common.{◌≡◌}
 use Rattle.points_to.specs.Families.{Has}
-use Rattle.points_to.specs.Progress.{IsMet, done_of}
+use Rattle.points_to.specs.computed.Progress.{IsMet, done_of}
 use Rattle.points_to.specs.Rules.{Demands, rule_of}
 use Rattle.points_to.proofs.Steps.{Front}
 use Rattle.points_to.proofs.reacting.meet_source.Given as goal

@@ -1,6 +1,6 @@
 use Rattle.std.proofs.Common.{◌≡◌, get_or, refl, subst}
 use Rattle.points_to.specs.Families.{Has, family_of}
-use Rattle.points_to.specs.Progress.{IsMet}
+use Rattle.points_to.specs.computed.Progress.{IsMet}
 use Rattle.points_to.specs.Rules.{Demands, rule_of}
 use Rattle.points_to.proofs.Demanding.{demands_last, targets_as}
 use Rattle.points_to.proofs.Steps.{front_more, front_all, constraint_after}

@@ -2,7 +2,7 @@ use Rattle.std.proofs.Common.{◌≡◌, true, get_or, refl, subst}
 use Rattle.core_ir.specs.declared.artifacts.Constraint.{Constraint}
 use Rattle.points_to.specs.Sets.{has}
 use Rattle.points_to.specs.Families.{Has, family_of}
-use Rattle.points_to.specs.Progress.{IsMet}
+use Rattle.points_to.specs.computed.Progress.{IsMet}
 use Rattle.points_to.specs.Rules.{Demands, rule_of}
 use Rattle.points_to.proofs.Demanding.{demands_last}
 use Rattle.points_to.proofs.Each.{got_at}

@@ -1,7 +1,7 @@
 use Rattle.std.proofs.Common.{◌≡◌, true}
 use Rattle.points_to.specs.Sets.{has}
 use Rattle.points_to.specs.Families.{Has}
-use Rattle.points_to.specs.Progress.{IsMet, done_of}
+use Rattle.points_to.specs.computed.Progress.{IsMet, done_of}
 use Rattle.points_to.specs.Rules.{Demands, rule_of}
 use Rattle.points_to.proofs.Steps.{Front}
 use Rattle.points_to.proofs.reacting.meet_targets.Given as goal

@@ -2,7 +2,7 @@ use Rattle.std.proofs.Common.{ℕ, ◌≡◌}
 use Rattle.std.proofs.lemmas.Result.{on_ok_weaker}
 use Rattle.points_to.specs.declared.rule.Rule.TheVariants as rules
 use Rattle.points_to.specs.Families.{Has}
-use Rattle.points_to.specs.Progress.{done_of}
+use Rattle.points_to.specs.computed.Progress.{done_of}
 use Rattle.points_to.proofs.Demanding.{as_rule, copy_from_one, load_one, part_one, result_one}
 use Rattle.points_to.proofs.reacting.react_to_source.Goals as goal
 

@@ -2,7 +2,7 @@ use Rattle.std.proofs.Common.{ℕ, ◌≡◌}
 use Rattle.std.proofs.lemmas.Result.{on_ok_weaker}
 use Rattle.points_to.specs.declared.rule.Rule.TheVariants as rules
 use Rattle.points_to.specs.Families.{Has}
-use Rattle.points_to.specs.Progress.{done_of}
+use Rattle.points_to.specs.computed.Progress.{done_of}
 use Rattle.points_to.proofs.Demanding.{as_rule, argument_one, copy_to_one, store_one}
 use Rattle.points_to.proofs.reacting.react_to_target.Goals as goal
 

@@ -1,5 +1,5 @@
 use Rattle.std.proofs.Common.{ap, ◌∙◌}
-use Rattle.points_to.specs.Readers.{constraint_lists}
+use Rattle.points_to.specs.computed.Readers.{constraint_lists}
 use Rattle.points_to.proofs.Lists.{empty_pushed, lists_push}
 use Rattle.points_to.proofs.readers.empty_lists.Goals as goal
 

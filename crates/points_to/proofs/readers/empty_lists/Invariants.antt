@@ -1,5 +1,5 @@
-use Rattle.points_to.specs.Progress.{AreEmpty}
-use Rattle.points_to.specs.Readers.{constraint_lists}
+use Rattle.points_to.specs.computed.Progress.{AreEmpty}
+use Rattle.points_to.specs.computed.Readers.{constraint_lists}
 use Rattle.points_to.proofs.readers.empty_lists.Given as goal
 
 abbrev pub invariant-loop : goal.invariant-loop

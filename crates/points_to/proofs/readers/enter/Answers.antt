@@ -1,6 +1,6 @@
 use Rattle.std.proofs.Common.{◌<◌, length, ap, sym, ◌∙◌, ◌++◌, ◌∷◌, [], set, List, Option, ℕ}
 use Rattle.core_ir.specs.declared.artifacts.Constraint.{Constraint}
-use Rattle.points_to.specs.Readers.{constraint_lists, entered}
+use Rattle.points_to.specs.computed.Readers.{constraint_lists, entered}
 use Rattle.points_to.proofs.Lists.{items_at, items_set}
 use Rattle.points_to.proofs.readers.enter.Goals as goal
 

@@ -1,6 +1,6 @@
 use Rattle.std.proofs.Common.{◌≡◌, ◌+◌, Some, List, slice_get, get_or, sym, subst, ◌∙◌}
 use Rattle.core_ir.specs.declared.artifacts.Constraint.{Constraint}
-use Rattle.points_to.specs.Readers.{constraint_lists}
+use Rattle.points_to.specs.computed.Readers.{constraint_lists}
 use Rattle.points_to.proofs.Each.{got_at}
 use Rattle.points_to.proofs.Lists.{AreReadersOf, readers_more, readers_all}
 use Rattle.points_to.proofs.readers.readers.Goals as goal

@@ -1,4 +1,4 @@
-use Rattle.points_to.specs.Readers.{constraint_lists}
+use Rattle.points_to.specs.computed.Readers.{constraint_lists}
 use Rattle.points_to.proofs.Lists.{AreReadersOf}
 use Rattle.points_to.proofs.readers.readers.Given as goal
 

@@ -1,10 +1,10 @@
 use Rattle.std.proofs.Common.{◌∙◌}
 use Rattle.points_to.specs.Families.{Has}
-use Rattle.points_to.specs.Progress.{edges_of, known_of}
+use Rattle.points_to.specs.computed.Progress.{edges_of, known_of}
 use Rattle.std.proofs.lemmas.Result.{on_ok_weaker}
 use Rattle.points_to.specs.declared.rule.Rule.TheVariants as rules
 use Rattle.points_to.specs.Rules.{rule_of}
-use Rattle.points_to.specs.Solving.{Opens}
+use Rattle.points_to.specs.computed.Solving.{Opens}
 use Rattle.points_to.proofs.Steps.{idle}
 use Rattle.points_to.proofs.Running.{opens_as, opens_other}
 use Rattle.points_to.proofs.solving.open.Goals as goal

@@ -1,7 +1,7 @@
 use Rattle.std.proofs.Common.{get_or, refl}
 use Rattle.core_ir.specs.declared.artifacts.Constraint.{Constraint}
 use Rattle.points_to.specs.Rules.{rule_of}
-use Rattle.points_to.specs.Solving.{Opens}
+use Rattle.points_to.specs.computed.Solving.{Opens}
 use Rattle.points_to.proofs.Each.{got_at}
 use Rattle.points_to.proofs.Steps.{front_more, front_all, constraint_after}
 use Rattle.points_to.proofs.Running.{opens_last}

@@ -1,6 +1,6 @@
-use Rattle.points_to.specs.Progress.{IsMet}
+use Rattle.points_to.specs.computed.Progress.{IsMet}
 use Rattle.points_to.specs.Rules.{rule_of}
-use Rattle.points_to.specs.Solving.{Opens}
+use Rattle.points_to.specs.computed.Solving.{Opens}
 use Rattle.points_to.proofs.Steps.{Front}
 use Rattle.points_to.proofs.solving.open_all.Given as goal
 

@@ -1,9 +1,9 @@
 use Rattle.std.proofs.Common.{List, [], get_or, subst}
 use Rattle.core_ir.specs.declared.artifacts.Constraint.{Constraint}
 use Rattle.points_to.specs.declared.rule.Side.TheVariants as sides
-use Rattle.points_to.specs.Progress.{IsTaken, IsMet}
-use Rattle.points_to.specs.Readers.{constraint_lists}
-use Rattle.points_to.specs.Solving.{IsAsked}
+use Rattle.points_to.specs.computed.Progress.{IsTaken, IsMet}
+use Rattle.points_to.specs.computed.Readers.{constraint_lists}
+use Rattle.points_to.specs.computed.Solving.{IsAsked}
 use Rattle.points_to.proofs.Running.{run_start, run_more, run_less, run_done, next_taken, next_idle, list_is, list_within, targets_read, sources_read, node_within}
 use Rattle.points_to.proofs.solving.run.Goals as goal
 

@@ -1,5 +1,5 @@
-use Rattle.points_to.specs.Progress.{room}
-use Rattle.points_to.specs.Solving.{IsRun}
+use Rattle.points_to.specs.computed.Progress.{room}
+use Rattle.points_to.specs.computed.Solving.{IsRun}
 use Rattle.points_to.proofs.solving.run.Given as goal
 
 abbrev pub invariant-loop-node : goal.invariant-loop-node

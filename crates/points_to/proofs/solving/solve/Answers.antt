@@ -3,9 +3,9 @@ use Rattle.points_to.specs.declared.rule.Side.TheVariants as sides
 use Rattle.points_to.specs.Sets.{IsSet}
 use Rattle.points_to.specs.Families.{Has, family_of}
 use Rattle.points_to.specs.Rules.{IsClosed}
-use Rattle.points_to.specs.RuleParts.{Each}
+use Rattle.points_to.specs.computed.RuleParts.{Each}
 use Rattle.points_to.specs.Fits.{Fits}
-use Rattle.points_to.specs.Readers.{AreReaders, constraint_lists}
+use Rattle.points_to.specs.computed.Readers.{AreReaders, constraint_lists}
 use Rattle.points_to.proofs.Running.{targets_within, sources_within, start_stands, opened_size, opened_flowed, opened_ruled, opened_within, lists_length}
 use Rattle.points_to.proofs.Naming.{named_closed}
 use Rattle.points_to.proofs.solving.solve.Goals as goal

@@ -1,5 +1,5 @@
 use Rattle.std.proofs.Common.{subst}
-use Rattle.points_to.specs.Progress.{IsMet}
+use Rattle.points_to.specs.computed.Progress.{IsMet}
 use Rattle.points_to.proofs.Steps.{kept_after, constraint_after}
 use Rattle.points_to.proofs.Running.{ByTarget, BySource, visited, hands_on}
 use Rattle.points_to.proofs.solving.visit.Goals as goal

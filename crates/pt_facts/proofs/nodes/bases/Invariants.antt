@@ -1,5 +1,5 @@
 use Rattle.std.proofs.Common.{◌≡◌, ◌+◌, ◌++◌, drop}
-use Rattle.pt_facts.specs.Bases.{bases_from}
+use Rattle.pt_facts.specs.computed.Bases.{bases_from}
 use Rattle.pt_facts.specs.Nodes.{registers_of}
 use Rattle.pt_facts.proofs.nodes.bases.Given as goal
 

@@ -1,5 +1,5 @@
-use Rattle.survey.specs.Asking.{asking}
-use Rattle.survey.specs.Endings.{sources_of}
+use Rattle.survey.specs.computed.Asking.{asking}
+use Rattle.survey.specs.computed.Endings.{sources_of}
 use Rattle.survey.proofs.Loads.{all_short}
 use Rattle.survey.proofs.Rows.{ends}
 use Rattle.survey.proofs.top.survey_files.Goals as goal

@@ -1,5 +1,5 @@
 use Rattle.std.proofs.Common.{◌≡◌, drop, length}
-use Rattle.var_clusters.specs.Partition.{placed}
+use Rattle.var_clusters.specs.computed.Partition.{placed}
 use Rattle.var_clusters.proofs.partition.place.Given as goal
 
 abbrev pub invariant-loop-r : goal.invariant-loop-r

@@ -1,5 +1,5 @@
 use Rattle.std.proofs.Common.{◌==◌, ◌||◌, ◌∙◌, sym, ap, refl, eq-eqb}
-use Rattle.points_to.specs.Blocks.{blocks_have}
+use Rattle.points_to.specs.computed.Blocks.{blocks_have}
 use Rattle.points_to.proofs.Views.{has_at, set_at, set_of, added_at, grew_at}
 use Rattle.points_to.proofs.bits.Bits.add.Goals as goal
 

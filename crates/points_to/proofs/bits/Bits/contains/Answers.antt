@@ -1,5 +1,5 @@
 use Rattle.std.proofs.Common.{◌∙◌, sym, ap}
-use Rattle.points_to.specs.Blocks.{blocks_have}
+use Rattle.points_to.specs.computed.Blocks.{blocks_have}
 use Rattle.points_to.proofs.Views.{has_at}
 use Rattle.points_to.proofs.bits.Bits.contains.Goals as goal
 

@@ -1,6 +1,6 @@
 use Rattle.std.proofs.Common.{◌||◌, ◌∙◌, sym, ap, refl}
 use Rattle.points_to.specs.Sets.{has}
-use Rattle.points_to.specs.Blocks.{blocks_have}
+use Rattle.points_to.specs.computed.Blocks.{blocks_have}
 use Rattle.points_to.proofs.Views.{has_at, set_at, set_of, kept, added_at, grew_at}
 use Rattle.points_to.proofs.bits.Bits.unite.Goals as goal
 

@@ -1,6 +1,6 @@
 use Rattle.std.proofs.Common.{◌&&◌, not, ◌∙◌, sym, ap}
 use Rattle.points_to.specs.Sets.{has}
-use Rattle.points_to.specs.Blocks.{blocks_have}
+use Rattle.points_to.specs.computed.Blocks.{blocks_have}
 use Rattle.points_to.proofs.Views.{has_at, set_of}
 use Rattle.points_to.proofs.Members.{members_have}
 use Rattle.points_to.proofs.bits.Bits.without.Goals as goal

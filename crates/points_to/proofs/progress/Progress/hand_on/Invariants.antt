@@ -1,6 +1,6 @@
 use Rattle.std.proofs.Common.{◌≡◌, ℕ, true}
 use Rattle.points_to.specs.Sets.{has}
-use Rattle.points_to.specs.Progress.{IsMet}
+use Rattle.points_to.specs.computed.Progress.{IsMet}
 use Rattle.points_to.proofs.Steps.{Front}
 use Rattle.points_to.proofs.progress.Progress.hand_on.Given as goal
 

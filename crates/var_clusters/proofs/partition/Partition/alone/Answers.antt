@@ -1,5 +1,5 @@
 use Rattle.std.proofs.Common.{sym, subst₂}
-use Rattle.var_clusters.specs.Partition.{AreLists}
+use Rattle.var_clusters.specs.computed.Partition.{AreLists}
 use Rattle.var_clusters.proofs.Partitions.{alone_lists}
 use Rattle.var_clusters.proofs.partition.Partition.alone.Goals as goal
 

@@ -1,6 +1,6 @@
 use Rattle.std.proofs.Common.{◌≡◌, ◌<◌, length, sym, ap, subst, ◌∙◌, length-set, slice_set}
 use Rattle.core_ir.specs.Plain.{lists_of}
-use Rattle.var_clusters.specs.Partition.{placed}
+use Rattle.var_clusters.specs.computed.Partition.{placed}
 use Rattle.var_clusters.proofs.Partitions.{united_lists, all_below, item_listed, vec_below}
 use Rattle.var_clusters.proofs.partition.Partition.unite.Goals as goal
 

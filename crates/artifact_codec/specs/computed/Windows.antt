@@ -5,7 +5,7 @@ use Rattle.core_ir.specs.Lists.{has}
 use Rattle.artifact_codec.specs.declared.window.Window.{Window}
 use Rattle.artifact_codec.specs.Demands.{are_distinct}
 use Rattle.artifact_codec.specs.declared.refusal.Malformed.{Malformed}
-use Rattle.artifact_codec.specs.Reading.{◌>>=◌, number_at, counted_at, numbers_at}
+use Rattle.artifact_codec.specs.computed.Reading.{◌>>=◌, number_at, counted_at, numbers_at}
 
 -- the lesser, where there is another
 abbrev pub lesser : Option ℕ → ℕ → ℕ

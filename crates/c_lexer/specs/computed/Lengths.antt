@@ -2,7 +2,7 @@
 use Rattle.std.specs.Prelude.{ℕ, ◌+◌, Bool, false, ◌||◌, ◌&&◌, ◌==◌, if◌then◌else◌, [], ◌∷◌, Option, Some, None}
 use Rattle.std.specs.List.{prefix_len}
 use Rattle.c_lexer.specs.Bytes.{Text, is_digit, is_nondigit, is_word_byte, is_number_byte, is_sign, is_exponent, is_newline}
-use Rattle.c_lexer.specs.Marks.{mark_len}
+use Rattle.c_lexer.specs.computed.Marks.{mark_len}
 use Rattle.c_lexer.specs.declared.shape.Shape.{Shape}
 use Rattle.c_lexer.specs.declared.shape.Shape.TheVariants as shapes
 

@@ -8,8 +8,8 @@ use Rattle.points_to.specs.declared.progress.Progress.{Progress}
 use Rattle.points_to.specs.Sets.{has}
 use Rattle.points_to.specs.Families.{Family, Relation, Has}
 use Rattle.points_to.specs.Rules.{Demands, IsClosed, rule_of}
-use Rattle.points_to.specs.RuleParts.{Each}
-use Rattle.points_to.specs.Progress.{Stands, Flowed, IsWithin, done_of, edges_of, known_of}
+use Rattle.points_to.specs.computed.RuleParts.{Each}
+use Rattle.points_to.specs.computed.Progress.{Stands, Flowed, IsWithin, done_of, edges_of, known_of}
 
 -- what a constraint asks where no set has a member
 abbrev pub Opens : Rule → Constraint → Relation → Relation → Type 0

@@ -13,9 +13,9 @@ use Rattle.c_lexer.specs.Bytes.{Text, in_line, is_blank, is_newline}
 use Rattle.c_lexer.specs.Meaning.{Meaning}
 use Rattle.c_lexer.specs.Spots.{past, past_token, past_directive, token_at}
 use Rattle.c_lexer.specs.Cuts.{Names, Turn, file_of, behind_newline, most_names, most_bytes, Outcome, Outcome.Done, Outcome.Refused, fault_at, with_token}
-use Rattle.c_lexer.specs.Lengths.{shape_at}
-use Rattle.c_lexer.specs.Values.{meaning}
-use Rattle.c_lexer.specs.Settings.{close_len, opens_block, opens_line, setting_of}
+use Rattle.c_lexer.specs.computed.Lengths.{shape_at}
+use Rattle.c_lexer.specs.computed.Values.{meaning}
+use Rattle.c_lexer.specs.computed.Settings.{close_len, opens_block, opens_line, setting_of}
 use Rattle.c_lexer.specs.declared.shape.Shape.{Shape}
 use Rattle.c_lexer.specs.declared.directive.Setting.{Setting}
 use Rattle.c_lexer.specs.declared.directive.Setting.TheVariants as settings

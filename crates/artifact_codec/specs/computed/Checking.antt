@@ -5,7 +5,7 @@ use Rattle.core_ir.specs.declared.artifacts.Constraint.{Constraint}
 use Rattle.core_ir.specs.Constraints.{is_constraint_before}
 use Rattle.artifact_codec.specs.Demands.{is_after, is_constraint, is_entry, is_write, are_distinct}
 use Rattle.core_ir.specs.Plain.{PlainStored}
-use Rattle.artifact_codec.specs.Reading.{content_at, ◌>>=◌, byte_at, number_at, flag_at, entry_at, constraint_at, write_at, site_colour_at, counted_at, numbers_at}
+use Rattle.artifact_codec.specs.computed.Reading.{content_at, ◌>>=◌, byte_at, number_at, flag_at, entry_at, constraint_at, write_at, site_colour_at, counted_at, numbers_at}
 
 -- ---- lists
 

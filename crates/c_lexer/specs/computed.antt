@@ -1,0 +1,6 @@
+-- Definitions that mirror code, so that proofs go by them. Laws tie them to the others, and no promise rests on them.
+pub mod Lengths
+pub mod Marks
+pub mod Scan
+pub mod Settings
+pub mod Values
