@@ -1,5 +1,7 @@
 -- The worked program fits, and it does not after certain changes.
-use Rattle.std.proofs.Common.{◌≡◌, ℕ, leb, T, pos, [], ◌∷◌, length, slice_index_or, Some, refl, sym, ap, arith, true≢false}
+use Rattle.std.proofs.Common.{◌≡◌, ℕ, zero, suc, ◌+◌, ◌<◌, ◌^◌, Bool, true, false, leb, T, pos, List, [], ◌∷◌, length, slice_index_or, slice_get, Option, Some, None, refl, sym, ap, subst, ◌∙◌, arith, true≢false}
+use Rattle.std.specs.List.{AllByRecursion}
+use Rattle.std.proofs.lemmas.Option.{none-some}
 use Rattle.std.specs.Int.Signed.{le_z, le_z_yes}
 use Rattle.std.specs.Ordering.{int_eq}
 use Rattle.std.proofs.Math.Facts.{leb_yes}
@@ -10,14 +12,17 @@ use Rattle.core_ir.specs.declared.steps.Cond.TheVariants as conditions
 use Rattle.core_ir.specs.declared.steps.Leaf.TheVariants as leaves
 use Rattle.core_ir.specs.declared.steps.Operand.{Operand}
 use Rattle.core_ir.specs.declared.steps.Operand.TheVariants.{Reg, Const}
+use Rattle.core_ir.specs.Classes.{all_shapes, layout_number}
+use Rattle.core_ir.specs.Layouts.{erased, tree_of}
 use Rattle.core_ir.specs.Lists.{has}
-use Rattle.core_ir.specs.Programs.{PlainFunction}
+use Rattle.core_ir.specs.Programs.{PlainExternal, PlainFunction, PlainProgram}
 use Rattle.core_ir.specs.ProgramsFit.{ProgramFits, IsPointerStart}
 use Rattle.core_ir.specs.Ranges.{Range, Includes}
+use Rattle.core_ir.specs.Shapes.{PlainShape, Scalar}
 use Rattle.core_ir.specs.Starts.{targets_for, IsStart}
 use Rattle.core_ir.specs.Steps.{Block, Loop, If, Exit, ended, ◌⨾◌}
 use Rattle.core_ir.specs.StepsFit.{leaf_at, HoldsAll, IsSize, MayTake, APointer, PutsIntegers, PutsPointer, PutsOperand, ConditionFits, StepFits, StepsFit, FunctionFits, CallFits}
-use Rattle.core_ir.specs.Worked.{worked, pick, main, loop_body, with_pick, with_main, with_classes, into_an_entry_register, result_over_argument, call_without_argument, exit_of_nothing, number_too_large, type_too_large, number_for_a_pointer, number_stored_as_pointer, elements_of_no_size, foreign_object, one_register_less, without_rivals, all_zero}
+use Rattle.core_ir.specs.Worked.{worked, pick, main, loop_body, with_pick, with_main, with_classes, into_an_entry_register, result_over_argument, call_without_argument, exit_of_nothing, number_too_large, type_too_large, number_for_a_pointer, number_stored_as_pointer, elements_of_no_size, foreign_object, one_register_less, without_rivals, all_zero, two_trees_of_a_type, elements_with_gaps, no_elements, union_with_a_gap, members_out_of_order, no_members, with_functions, with_externals}
 use Rattle.core_ir.proofs.Starting.{x, interval, starts_as_expected, start_of_0, start_of_1, start_of_2, start_of_3, start_of_4, start_of_5, start_of_6, start_of_7, start_of_8}
 
 -- ---- facts on literals
@@ -143,8 +148,11 @@ worked_fits = record {
   region_numbers = refl;
   leaf_numbers = refl;
   regions_marked = refl ▹ refl ▹ refl ▹ refl ▹ refl ▹ refl ▹ refl ▹ tt;
+  laid_out = refl ▹ refl ▹ refl ▹ refl ▹ refl ▹ refl ▹ refl ▹ tt;
+  one_tree = refl ▹ refl ▹ refl ▹ refl ▹ refl ▹ refl ▹ refl ▹ refl ▹ refl ▹ refl ▹ refl ▹ refl ▹ refl ▹ refl ▹ refl ▹ refl ▹ tt;
   region_room = leb_yes tt;
   function_room = leb_yes tt;
+  external_room = leb_yes tt;
   node_room = leb_yes tt;
   classes = refl;
   functions = pick_fits ▹ main_fits ▹ tt;
@@ -212,6 +220,56 @@ size_wanted h = h.functions.1.0.body.0.2.some refl
 
 pub own_object_wanted : ProgramFits (with_main foreign_object) → ⊥
 own_object_wanted h = true≢false h.own_objects.0.0.first
+
+-- ---- other objects
+
+abbrev is_pointer : Option PlainShape → Bool
+is_pointer (Some (Scalar layout region leaves.Pointer class)) = true
+is_pointer shape = false
+
+-- the first sub-object of the type is a pointer, and the last object a number
+pub one_tree_wanted : ProgramFits two_trees_of_a_type → ⊥
+one_tree_wanted h = true≢false (ap is_pointer h.one_tree.1.1.1.1.1.1.1.1.1.1.1.1.1.1.1.0)
+
+pub stride_wanted : ProgramFits elements_with_gaps → ⊥
+stride_wanted h = true≢false (sym h.laid_out.0)
+
+pub elements_wanted : ProgramFits no_elements → ⊥
+elements_wanted h = true≢false (sym h.laid_out.0)
+
+pub start_wanted : ProgramFits union_with_a_gap → ⊥
+start_wanted h = true≢false (sym h.laid_out.1.0)
+
+pub order_wanted : ProgramFits members_out_of_order → ⊥
+order_wanted h = true≢false (sym h.laid_out.1.1.1.0)
+
+pub member_wanted : ProgramFits no_members → ⊥
+member_wanted h = true≢false (sym h.laid_out.1.1.1.1.1.1.0)
+
+pub few_functions : (functions : List PlainFunction) → 20000 < length functions → ProgramFits (with_functions functions) → ⊥
+few_functions functions many h = absurd (omega (arith, many, h.function_room))
+
+pub few_externals : (externals : List PlainExternal) → 2 ^ 31 < 20000 + length externals → ProgramFits (with_externals externals) → ⊥
+few_externals externals many h = absurd (omega (arith, many, h.external_room))
+
+-- ---- one type has one tree
+
+module _ {A : Type 0} (P : A → Type 0) where
+  all_at : (xs : List A) (i : ℕ) (x : A) → AllByRecursion P xs → slice_get xs i ≡ Some x → P x
+  all_at [] i x h e = absurd (none-some x e)
+  all_at (y ∷ ys) zero x h e = subst P (in_some y x e) h.0
+    where
+      in_some : (a b : A) → Some a ≡ Some b → a ≡ b
+      in_some a b same = cc
+  all_at (y ∷ ys) (suc i) x h e = all_at ys i x h.1 e
+
+pub one_tree_each : (p : PlainProgram) (i j : ℕ) (x y : PlainShape) → ProgramFits p → slice_get (all_shapes p) i ≡ Some x → slice_get (all_shapes p) j ≡ Some y → layout_number x ≡ layout_number y → erased x ≡ erased y
+one_tree_each p i j x y h at_i at_j same =
+    let Tree : PlainShape → Type 0 = λ shape. tree_of p (layout_number shape) ≡ Some (erased shape) in
+    in_some (erased x) (erased y) (sym (all_at Tree (all_shapes p) i x h.one_tree at_i) ∙ ap (tree_of p) same ∙ all_at Tree (all_shapes p) j y h.one_tree at_j)
+  where
+    in_some : (a b : PlainShape) → Some a ≡ Some b → a ≡ b
+    in_some a b e = cc
 
 pub registers_counted : ProgramFits (with_classes one_register_less) → ⊥
 registers_counted h = absurd (omega (arith, ap (λ c. c.registers) h.classes))

@@ -9,6 +9,7 @@ pub mod Programs
 pub mod Views
 pub mod StepsFit
 pub mod Classes
+pub mod Layouts
 pub mod Starts
 pub mod ProgramsFit
 pub mod BoundsFit

@@ -4,7 +4,8 @@ use Rattle.std.specs.List.{AllByRecursion, list_any, range_with_len}
 use Rattle.core_ir.specs.declared.steps.Leaf.{Leaf}
 use Rattle.core_ir.specs.declared.steps.Leaf.TheVariants as leaves
 use Rattle.core_ir.specs.declared.steps.Value.TheVariants.{Address}
-use Rattle.core_ir.specs.Classes.{classes_given, regions_of, leaf_classes_of, marks_regions, register_count}
+use Rattle.core_ir.specs.Classes.{all_shapes, classes_given, layout_number, regions_of, leaf_classes_of, marks_regions, register_count}
+use Rattle.core_ir.specs.Layouts.{erased, is_laid_out, tree_of}
 use Rattle.core_ir.specs.Lists.{has, IsAscending, AllFrom}
 use Rattle.core_ir.specs.Programs.{PlainFunction, PlainProgram}
 use Rattle.core_ir.specs.Ranges.{leaf_range, Includes}
@@ -80,9 +81,14 @@ pub record ProgramFits (p : PlainProgram) : Type 0 where
   pub region_numbers : regions_of p ≡ range_with_len 0 (length (regions_of p))
   pub leaf_numbers : leaf_classes_of p ≡ range_with_len 0 (length (leaf_classes_of p))
   pub regions_marked : AllByRecursion (λ object. marks_regions false object ≡ true) p.objects
-  -- numbers of regions, functions and nodes have room in 32 bits, where functions come from 2 ^ 31 on
+  -- objects lie as C has it, and sub-objects of one type have one tree, so that a copy takes each leaf to one of its own kind
+  pub laid_out : AllByRecursion (λ object. is_laid_out object ≡ true) p.objects
+  pub one_tree : AllByRecursion (λ shape. tree_of p (layout_number shape) ≡ Some (erased shape)) (all_shapes p)
+  -- numbers of regions, functions and nodes have room in 32 bits, where functions come from 2 ^ 31 on; the external ones, which come
+  -- last, have the room that the greatest number of defined ones leaves
   pub region_room : length (regions_of p) ≤ 2 ^ 31
-  pub function_room : function_count p ≤ 2 ^ 31
+  pub function_room : length p.functions ≤ 20000
+  pub external_room : 20000 + length p.externals ≤ 2 ^ 31
   pub node_room : register_count p + length (leaf_classes_of p) < 2 ^ 32
   -- the table says what the objects, sub-objects and functions are
   pub classes : p.classes ≡ classes_given p

@@ -204,7 +204,7 @@ module _ (p : PlainProgram) (i : ℕ) (f : PlainFunction) where
     StepFits blocks (Sub to address part) = APointer f address × (part < length p.parts) × PutsPointer f to
     StepFits blocks (Load to address leaf volatile) = APointer f address × PutsLeaf f leaf to
     StepFits blocks (Store address value leaf) = APointer f address × StoredFits f leaf value
-    -- any type: where no object has a part of it, nothing is copied
+    -- any type: one of which no object has a part copies nothing of the program, and a run that comes there ends undefined
     StepFits blocks (CopyObject to from layout) = APointer f to × APointer f from
     StepFits blocks (Begin object initialised) = IsObject p object
     StepFits blocks (Call to callee args) = CallFits p f to callee args

@@ -14,7 +14,7 @@
 --         s1 = s2; s1.k[1] = 2; fp = pick; p = s1.p; *p = fp(i);
 --         return 0;
 --     }
-use Rattle.std.specs.Prelude.{true, false, pos, neg_ℤ, List, [], ◌∷◌, ◌++◌, replicate, Some, None}
+use Rattle.std.specs.Prelude.{ℕ, ◌+◌, true, false, pos, neg_ℤ, List, [], ◌∷◌, ◌++◌, replicate, Some, None}
 use Rattle.c_values.specs.declared.int_type.IntType.TheVariants as types
 use Rattle.c_values.specs.declared.operator.Op.TheVariants as ops
 use Rattle.c_values.specs.declared.operator.Cmp.TheVariants as compares
@@ -25,7 +25,7 @@ use Rattle.core_ir.specs.declared.steps.Cond.TheVariants as conditions
 use Rattle.core_ir.specs.declared.steps.Leaf.TheVariants as leaves
 use Rattle.core_ir.specs.declared.steps.Operand.TheVariants.{Reg, Const}
 use Rattle.core_ir.specs.declared.steps.Value.TheVariants as values
-use Rattle.core_ir.specs.Programs.{PlainClasses, PlainFunction, PlainProgram}
+use Rattle.core_ir.specs.Programs.{PlainClasses, PlainExternal, PlainFunction, PlainProgram}
 use Rattle.core_ir.specs.Shapes as members
 use Rattle.core_ir.specs.Shapes.{PlainShape, Scalar, Array, Members, member}
 use Rattle.core_ir.specs.Statics as starts
@@ -219,3 +219,50 @@ without_rivals = record classes { rivals = [] ∷ [] ∷ [] ∷ [] ∷ [] ∷ []
 -- all begins with zero or null
 abbrev pub all_zero : PlainProgram
 all_zero = record worked { leaf_starts = replicate 9 (Some (pos 0, pos 0)) ++ None ∷ [] }
+
+-- other objects, under the same table
+abbrev pub with_objects : List PlainShape → PlainProgram
+with_objects list = record worked { objects = list }
+
+abbrev objects_from : PlainShape → PlainShape → PlainShape → PlainShape → PlainShape → List PlainShape
+objects_from first second third fourth last = first ∷ second ∷ Scalar 4 (Some 4) leaves.Pointer 3 ∷ third ∷ fourth ∷ Scalar 4 (Some 11) leaves.Pointer 8 ∷ last ∷ []
+
+abbrev numbers : ℕ → ℕ → PlainShape
+numbers count stride = Array 0 (Some 0) count stride (Scalar 1 None (leaves.Int types.Int) 0)
+
+-- a union whose second member lies so many bytes behind its start
+abbrev choice : ℕ → PlainShape
+choice offset = Members 2 (Some 1) true (member 0 (Scalar 1 (Some 2) (leaves.Int types.Int) 1) (member offset (Scalar 3 (Some 3) (leaves.Int types.Char) 2) members.ended))
+
+-- a structure with its members at these offsets, with its classes from these on
+abbrev pair : ℕ → ℕ → ℕ → ℕ → PlainShape
+pair pointer_at numbers_at region class = Members 5 (Some region) false (member pointer_at (Scalar 4 (Some (region + 1)) leaves.Pointer class) (member numbers_at (Array 6 (Some (region + 2)) 2 4 (Scalar 1 None (leaves.Int types.Int) (class + 1))) members.ended))
+
+-- of a type by its number
+abbrev variable : ℕ → PlainShape
+variable layout = Scalar layout (Some 12) (leaves.Int types.Int) 9
+
+-- the last object is a number of the type that pointers have
+abbrev pub two_trees_of_a_type : PlainProgram
+two_trees_of_a_type = with_objects (objects_from (numbers 4 4) (choice 0) (pair 0 4 5 4) (pair 0 4 8 6) (variable 4))
+
+abbrev pub elements_with_gaps : PlainProgram
+elements_with_gaps = with_objects (objects_from (numbers 2 8) (choice 0) (pair 0 4 5 4) (pair 0 4 8 6) (variable 1))
+
+abbrev pub no_elements : PlainProgram
+no_elements = with_objects (objects_from (numbers 0 4) (choice 0) (pair 0 4 5 4) (pair 0 4 8 6) (variable 1))
+
+abbrev pub union_with_a_gap : PlainProgram
+union_with_a_gap = with_objects (objects_from (numbers 4 4) (choice 1) (pair 0 4 5 4) (pair 0 4 8 6) (variable 1))
+
+abbrev pub members_out_of_order : PlainProgram
+members_out_of_order = with_objects (objects_from (numbers 4 4) (choice 0) (pair 8 0 5 4) (pair 8 0 8 6) (variable 1))
+
+abbrev pub no_members : PlainProgram
+no_members = with_objects (objects_from (numbers 4 4) (choice 0) (pair 0 4 5 4) (pair 0 4 8 6) (Members 1 (Some 12) false members.ended))
+
+abbrev pub with_functions : List PlainFunction → PlainProgram
+with_functions list = record worked { functions = list }
+
+abbrev pub with_externals : List PlainExternal → PlainProgram
+with_externals list = record worked { externals = list }

@@ -1,11 +1,15 @@
 //! The order of the text, and what fits by a worked program. Each law is the contract of a function that does nothing.
-ghost use Rattle.std.specs.Prelude.{◌≡◌, List, map};
+ghost use Rattle.std.specs.Prelude.{◌≡◌, ℕ, ◌+◌, ◌<◌, ◌^◌, List, map, length, slice_get};
 ghost use Rattle.core_ir.specs.declared.steps.Step.{Step};
+ghost use Rattle.core_ir.specs.Classes.{all_shapes, layout_number};
+ghost use Rattle.core_ir.specs.Layouts.{erased};
 ghost use Rattle.core_ir.specs.Order.{text_order};
+ghost use Rattle.core_ir.specs.Programs.{PlainExternal, PlainFunction, PlainProgram};
 ghost use Rattle.core_ir.specs.ProgramsFit.{ProgramFits};
+ghost use Rattle.core_ir.specs.Shapes.{PlainShape};
 ghost use Rattle.core_ir.specs.Steps.{in_order, step_of, steps_of};
 ghost use Rattle.core_ir.specs.ViewsFit.{ViewFits};
-ghost use Rattle.core_ir.specs.Worked.{pick, worked, with_pick, with_main, with_classes, into_an_entry_register, result_over_argument, call_without_argument, exit_of_nothing, number_too_large, type_too_large, number_for_a_pointer, number_stored_as_pointer, elements_of_no_size, foreign_object, one_register_less, without_rivals, all_zero};
+ghost use Rattle.core_ir.specs.Worked.{pick, worked, with_pick, with_main, with_classes, into_an_entry_register, result_over_argument, call_without_argument, exit_of_nothing, number_too_large, type_too_large, number_for_a_pointer, number_stored_as_pointer, elements_of_no_size, foreign_object, one_register_less, without_rivals, all_zero, two_trees_of_a_type, elements_with_gaps, no_elements, union_with_a_gap, members_out_of_order, no_members, with_functions, with_externals};
 ghost use Rattle.core_ir.specs.WorkedView.{worked_view, without_callee, without_object, in_two_clusters, beyond_range, without_bound};
 
 /// The order of the text of plain steps is that of the steps.
@@ -39,6 +43,28 @@ pub fn another_table_breaks_it()
     ensures registers { ProgramFits (with_classes one_register_less) → ⊥ }
     ensures rivals { ProgramFits (with_classes without_rivals) → ⊥ }
     ensures starts { ProgramFits all_zero → ⊥ }
+{}
+
+/// Nor with other objects: a number and a pointer of one type, elements with bytes between them, an array of no elements, a member of
+/// a union behind its start, members that lie in another order than they stand in, a structure without members.
+pub fn another_object_breaks_it()
+    ensures one_tree { ProgramFits two_trees_of_a_type → ⊥ }
+    ensures stride { ProgramFits elements_with_gaps → ⊥ }
+    ensures elements { ProgramFits no_elements → ⊥ }
+    ensures union_member { ProgramFits union_with_a_gap → ⊥ }
+    ensures members { ProgramFits members_out_of_order → ⊥ }
+    ensures no_member { ProgramFits no_members → ⊥ }
+{}
+
+/// Nor with more functions than there may be.
+pub fn more_functions_break_it()
+    ensures defined { (functions : List PlainFunction) → 20000 < length functions → ProgramFits (with_functions functions) → ⊥ }
+    ensures external { (externals : List PlainExternal) → 2 ^ 31 < 20000 + length externals → ProgramFits (with_externals externals) → ⊥ }
+{}
+
+/// Of a program that fits, sub-objects of one type have one tree.
+pub fn one_tree_of_a_type()
+    ensures { (p : PlainProgram) (i j : ℕ) (x y : PlainShape) → ProgramFits p → slice_get (all_shapes p) i ≡ Some x → slice_get (all_shapes p) j ≡ Some y → layout_number x ≡ layout_number y → erased x ≡ erased y }
 {}
 
 /// A view of the first function of the worked program fits.

@@ -19,7 +19,8 @@ pub use artifacts::{Artifact, Bounds, CallPart, Constraint, Solution, Stored, Wr
 pub use bodies::StepList;
 pub use classes::{ClassTable, FunctionNodes, LayoutPart, PartClass, RegionClass};
 pub use laws::{
-    another_table_breaks_it, another_view_breaks_it, one_step_breaks_it, one_text_order,
+    another_object_breaks_it, another_table_breaks_it, another_view_breaks_it,
+    more_functions_break_it, one_step_breaks_it, one_text_order, one_tree_of_a_type,
     worked_program_fits, worked_view_fits,
 };
 pub use order::in_order;

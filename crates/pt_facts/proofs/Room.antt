@@ -16,4 +16,4 @@ pub node_room : (p : CoreProgram) → ProgramFits (program_of p) → registers_o
 node_room p h = omega (arith, h.node_room, registers_same p.functions.items, h.pointer_count, length-map p.pointer_starts.items (λ v. v.items))
 
 pub function_room : (p : CoreProgram) → ProgramFits (program_of p) → function_count p ≤ 2 ^ 31
-function_room p h = omega (arith, h.function_room, length-map p.functions.items function_of, length-map p.externals.items external_of)
+function_room p h = omega (arith, h.function_room, h.external_room, length-map p.functions.items function_of, length-map p.externals.items external_of)
