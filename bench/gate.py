@@ -1,11 +1,13 @@
 #!/usr/bin/env python3
-"""Runs the gate from nothing and tells what each crate costs in processor minutes: its proof, its tests, its edits.
+"""Runs the gate and tells what each crate costs in processor minutes: its proof, its tests, its edits.
 
 Every second the processor time of each process of the run is read, with that of its children, and put down to the crate
-that its command line names; what none names (reading, linking, running programs and tests) is the rest. The total is that
-of the whole run, as the system counts it. Prints the table by crate, the longest chain of crates and the budget; with
---write it replaces the measured part of docs/GATE.md. What `rt ci` says goes to the file LOG. The status is that of `rt ci`.
-usage: bench/gate.py [--write] [--log LOG] [FOLDER]
+that its command line names; what none names (reading, linking, running programs and tests) is the rest. With no names
+the gate runs from nothing, and each crate is measured. With names it is `rt ci NAME..`, and only what that run proves or
+tries is measured: rows of crates that it proved take the place of those in docs/GATE.md, which stand otherwise. Prints the
+table by crate, the longest chain of crates and the budget; with --write it replaces the measured part of docs/GATE.md. What
+`rt ci` says goes to the file LOG. The status is that of `rt ci`.
+usage: bench/gate.py [--write] [--log LOG] [NAME..]
 """
 import argparse
 import os
@@ -95,11 +97,11 @@ class Sampler:
         return table
 
 
-def run(folder, log):
-    """Runs the gate. Returns its status, the minutes by crate, those of the whole run, and those on the clock."""
+def run(folder, names, log):
+    """Runs the gate. Returns its status, the minutes by crate, what is put down to none, and those on the clock."""
     begin = time.time()
     with open(log, "w", encoding="utf-8") as out:
-        child = subprocess.Popen(["rt", "ci"], cwd=folder, stdout=out, stderr=subprocess.STDOUT)
+        child = subprocess.Popen(["rt", "ci", *(names or ["--anew"])], cwd=folder, stdout=out, stderr=subprocess.STDOUT)
         sampler = Sampler(child.pid)
         while True:
             done, status, usage = os.wait4(child.pid, os.WNOHANG)
@@ -107,8 +109,9 @@ def run(folder, log):
                 break
             sampler.sample()
             time.sleep(1)
-    total = (usage.ru_utime + usage.ru_stime) / 60
-    return os.waitstatus_to_exitcode(status), sampler.minutes(), total, (time.time() - begin) / 60
+    minutes = sampler.minutes()
+    rest = (usage.ru_utime + usage.ru_stime) / 60 - sum(sum(row.values()) for row in minutes.values())
+    return os.waitstatus_to_exitcode(status), minutes, rest, (time.time() - begin) / 60
 
 
 def libraries(folder):
@@ -145,6 +148,18 @@ def edits(folder, name):
     return sum(it.endswith(".edit") for it in os.listdir(place)) if os.path.isdir(place) else 0
 
 
+def measured_before(folder):
+    """The rows of docs/GATE.md: what each crate cost when it was last measured."""
+    rows = {}
+    with open(os.path.join(folder, "docs", "GATE.md"), encoding="utf-8") as file:
+        for line in file:
+            cells = [it.strip() for it in line.strip().strip("|").split("|")]
+            if len(cells) == 5 and cells[1].replace(".", "").isdigit():
+                proof, tests, edited = (float(it.split()[0]) if it != "-" else 0.0 for it in cells[2:])
+                rows[cells[0]] = dict.fromkeys(KINDS, 0.0) | {"proof": proof, "tests": tests, "edits": edited}
+    return rows
+
+
 def cell(minutes, count=None):
     if minutes < 0.05 and not count:
         return "-"
@@ -159,20 +174,18 @@ def table(folder, minutes):
         yield f"| {name} | {sum(row.values()):.1f} | {' | '.join(parts)} |"
 
 
-def told(folder, measured):
+def told(folder, minutes, rest):
     """The lines of the measured part."""
-    status, minutes, total, clock = measured
     named = libraries(folder)
-    for name in named:
-        minutes.setdefault(name, dict.fromkeys(KINDS, 0.0))
+    minutes = {name: minutes.get(name, dict.fromkeys(KINDS, 0.0)) for name in named}
     sums = {kind: sum(row[kind] for row in minutes.values()) for kind in KINDS}
+    total = sum(sums.values()) + rest
     taken, names = chain(named, minutes)
     dearest = max(minutes, key=lambda it: sum(minutes[it].values()))
     version = subprocess.run(["rt", "version"], capture_output=True, text=True, check=True).stdout.strip()
     count = sum(edits(folder, name) for name in named)
-    yield f"{len(named)} crates and {count} edits, with `{version}`, on {os.cpu_count()} processors: {total:.0f} processor minutes,"
-    yield f"{clock:.0f} minutes on the clock{'' if status == 0 else '; NOT PASSED'}. Proofs {sums['proof']:.0f}, tests {sums['tests']:.0f}, edits {sums['edits']:.0f},"
-    yield f"programs {sums['program']:.1f}, the rest {total - sum(sums.values()):.1f}."
+    yield f"{len(named)} crates and {count} edits, with `{version}`, on {os.cpu_count()} processors: {total:.0f} processor minutes."
+    yield f"Proofs {sums['proof']:.0f}, tests {sums['tests']:.0f}, edits {sums['edits']:.0f}, programs {sums['program']:.1f}, the rest {rest:.1f}."
     yield ""
     yield "| | measured | budget |"
     yield "|---|---|---|"
@@ -198,15 +211,15 @@ def main():
     words = argparse.ArgumentParser()
     words.add_argument("--write", action="store_true")
     words.add_argument("--log", default="/dev/null")
-    words.add_argument("folder", nargs="?", default=TOP)
+    words.add_argument("names", nargs="*")
     given = words.parse_args()
-    folder = os.path.abspath(given.folder)
-    measured = run(folder, os.path.abspath(given.log))
-    lines = list(told(folder, measured))
-    print("\n".join(lines))
+    status, minutes, rest, clock = run(TOP, given.names, os.path.abspath(given.log))
+    proved = {name: row for name, row in minutes.items() if row["proof"] + row["tests"] + row["program"] > 0}
+    lines = list(told(TOP, (measured_before(TOP) | proved) if given.names else minutes, rest))
+    print("\n".join(lines), f"\n\n{clock:.0f} minutes on the clock{'' if status == 0 else '; NOT PASSED'}.")
     if given.write:
-        write(folder, lines)
-    raise SystemExit(measured[0])
+        write(TOP, lines)
+    raise SystemExit(status)
 
 
 if __name__ == "__main__":
