@@ -6,7 +6,8 @@ use Rattle.std.proofs.lemmas.Bool.{and_parts}
 use Rattle.std.proofs.lemmas.Fmt.{digits_decimal, decimal_nonempty}
 use Rattle.c_lexer.specs.Bytes.{is_digit}
 use Rattle.first_form.specs.Pieces.{Piece}
-use Rattle.first_form.specs.computed.Scan.{◌>>=◌, pieces_from}
+use Rattle.c_lexer.specs.computed.Settings.{◌>>=◌}
+use Rattle.first_form.specs.computed.Scan.{pieces_from}
 use Rattle.first_form.specs.Cuts.{AllAre, IsToken, Cuts}
 use Rattle.first_form.specs.Form.{number_end, begins_word, Spelled, IsArrayAt, IsStoreAt, Each, IsFormOf, IsForm}
 use Rattle.first_form.specs.computed.Reading.{program_at, reading}

@@ -3,7 +3,8 @@ use Rattle.std.proofs.Common.{◌≡◌, ◌≢◌, ℕ, zero, suc, ◌+◌, ◌
 use Rattle.std.specs.Option.{option_map}
 use Rattle.std.proofs.lemmas.List.{drop_more, drop-drop, drop_all, append-nil}
 use Rattle.first_form.specs.Pieces.{Piece}
-use Rattle.first_form.specs.computed.Scan.{◌>>=◌, piece_len, put_first, pieces_from}
+use Rattle.c_lexer.specs.computed.Settings.{◌>>=◌}
+use Rattle.first_form.specs.computed.Scan.{piece_len, put_first, pieces_from}
 
 -- what was cut before, and what is still cut
 abbrev pub with_front : List Piece → Option (List Piece) → Option (List Piece)

@@ -2,7 +2,7 @@
 use Rattle.std.proofs.Common.{◌≡◌, ℕ, suc, ◌-◌, ◌+◌, ◌≤◌, ◌<◌, Bool, true, false, List, [], ◌∷◌, ◌++◌, Option, Some, None, refl, sym, ap, ◌∙◌, append_assoc, arith}
 use Rattle.std.proofs.lemmas.List.{append-nil}
 use Rattle.first_form.specs.Pieces.{Piece}
-use Rattle.first_form.specs.computed.Scan.{◌>>=◌}
+use Rattle.c_lexer.specs.computed.Settings.{◌>>=◌}
 use Rattle.first_form.specs.computed.Reading.{Fails, many}
 use Rattle.first_form.specs.declared.refusal.Refusal.{Refusal}
 use Rattle.first_form.specs.declared.refusal.Refusal.TheVariants as refusals

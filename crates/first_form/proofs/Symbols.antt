@@ -8,7 +8,8 @@ use Rattle.std.proofs.lemmas.Bool.{cases_Bool, and_parts, or_cases, not-true, no
 use Rattle.std.proofs.lemmas.Str.Parse.{digits_value_short}
 use Rattle.std.proofs.lemmas.Fmt.{decimal-digits_value, digits_decimal, digits_value-decimal, decimal_nonempty, length-decimal-le, first_decimal, decimal_digit}
 use Rattle.first_form.specs.Pieces.{Piece}
-use Rattle.first_form.specs.computed.Scan.{◌>>=◌, begins_with}
+use Rattle.c_lexer.specs.computed.Settings.{◌>>=◌}
+use Rattle.first_form.specs.computed.Scan.{begins_with}
 use Rattle.first_form.specs.Form.{begins_word, is_reserved, number_end, Spelled, IsName}
 use Rattle.first_form.specs.computed.Reading.{is_number, number_of, word_at, name_at, number_at}
 use Rattle.first_form.proofs.Digits.{own}

@@ -4,7 +4,8 @@ use Rattle.std.specs.List.{list_any}
 use Rattle.std.specs.Str.{bytes_eq, all_ascii_digits}
 use Rattle.std.specs.Str.Parse.{digits_value}
 use Rattle.first_form.specs.Pieces.{Piece}
-use Rattle.first_form.specs.computed.Scan.{◌>>=◌, pieces_from, begins_with}
+use Rattle.c_lexer.specs.computed.Settings.{◌>>=◌}
+use Rattle.first_form.specs.computed.Scan.{pieces_from, begins_with}
 use Rattle.first_form.specs.Form.{begins_word, is_reserved, greatest_size, names, line_at, col_at}
 use Rattle.first_form.specs.declared.program.Array.{Array}
 use Rattle.first_form.specs.declared.program.Store.{Store}

@@ -5,6 +5,7 @@ use Rattle.std.specs.List.{prefix_len}
 use Rattle.c_lexer.specs.Bytes.{is_digit, is_nondigit, is_word_byte, is_number_byte}
 use Rattle.first_form.specs.Marks.{is_mark}
 use Rattle.first_form.specs.Pieces.{Piece}
+use Rattle.c_lexer.specs.computed.Settings.{◌>>=◌}
 
 abbrev pub begins_with : ℕ → List ℕ → Bool
 begins_with b [] = false
@@ -18,11 +19,6 @@ piece_len (b ∷ bs) =
     else if is_digit b then (if prefix_len is_number_byte bs == prefix_len is_digit bs then Some (1 + prefix_len is_digit bs) else None)
     else if is_mark b then (if (b == 61) && begins_with 61 bs then None else Some 1)
     else None
-
-infixl 10 ◌>>=◌
-abbrev pub ◌>>=◌ : {A B : Type 0} → Option A → (A → Option B) → Option B
-None >>= f = None
-(Some x) >>= f = f x
 
 abbrev pub put_first : Piece → Option (List Piece) → Option (List Piece)
 put_first p rest = option_map (λ ps. p ∷ ps) rest
