@@ -15,4 +15,6 @@ pub struct Program {
     pub typed: Typed,
     /// As the analysis takes it.
     pub core: CoreProgram,
+    /// Whether a call of a memory function has got a body.
+    pub redirected: bool,
 }

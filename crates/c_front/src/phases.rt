@@ -87,10 +87,16 @@ pub fn front(
 ) -> Result<Program, FrontFault> {
     let trees = trees_of(alloc, files, names)?;
     let typed = link(alloc, &trees, entry)?;
+    let defined = typed.functions.len();
     let typed = redirect(alloc, typed)?;
+    let redirected = typed.functions.len() > defined;
     if let Some(fault) = functions_fault(&typed) {
         return Err(FrontFault::Fault(fault));
     }
     let core = lower(alloc, &typed)?;
-    Ok(Program { typed, core })
+    Ok(Program {
+        typed,
+        core,
+        redirected,
+    })
 }

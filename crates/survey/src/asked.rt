@@ -1,10 +1,10 @@
 /// What a check is asked for.
 #[derive(Drop)]
-pub(crate) struct Asked {
+pub struct Asked {
     /// The names of the functions that the environment calls, separated by commas.
-    pub(crate) entry: String,
+    pub entry: String,
     /// The most rising rounds.
-    pub(crate) rounds: u32,
+    pub rounds: u32,
     /// The names of the files, in the order in which they are read.
-    pub(crate) files: Vec<String>,
+    pub files: Vec<String>,
 }

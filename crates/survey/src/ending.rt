@@ -3,7 +3,7 @@ ghost use Rattle.survey.specs.computed.Endings.{complaint_text, status_number};
 
 /// How a call ends. The texts are those that are told.
 #[derive(Drop)]
-pub(crate) enum Ending {
+pub enum Ending {
     /// The report was put, with this status.
     Reported(u8),
     Usage,
@@ -15,7 +15,7 @@ pub(crate) enum Ending {
 }
 
 /// The exit status of an ending.
-pub(crate) fn status_number(ending: &Ending) -> u8
+pub fn status_number(ending: &Ending) -> u8
     ensures { result ≡ status_number ending.now }
 {
     match ending {
@@ -29,7 +29,7 @@ pub(crate) fn status_number(ending: &Ending) -> u8
 }
 
 /// What an ending tells.
-pub(crate) fn complaint(ending: &Ending) -> &[u8]
+pub fn complaint(ending: &Ending) -> &[u8]
     ensures { result.now ≡ complaint_text ending.now }
 {
     match ending {

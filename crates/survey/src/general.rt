@@ -9,7 +9,7 @@ use crate::telling::{fault_line, file_fault_line};
 use c_front::{Program, SourceFile, front};
 use core_ir::{CoreProgram, CoreSite};
 use report::{Line, report_status, report_text};
-use round_plan::{Plan, colours_alone};
+use round_tasks::{Analysis, colours_alone};
 use sqlite_items::Items;
 use std::alloc::{AllocError, Global};
 use sv_base::{
@@ -71,7 +71,7 @@ fn line_of(
 }
 
 /// A line for each site, in their order.
-fn lines_of(
+pub fn lines_of(
     alloc: Global,
     names: &Names,
     core: &CoreProgram,
@@ -87,7 +87,7 @@ fn lines_of(
 }
 
 /// The names of the external functions, in the order of their first uses.
-fn assumed_of(alloc: Global, core: &CoreProgram) -> Result<Vec<Vec<u8>>, AllocError> {
+pub fn assumed_of(alloc: Global, core: &CoreProgram) -> Result<Vec<Vec<u8>>, AllocError> {
     let mut names = Vec::new(alloc);
     for external in core.externals.iter() {
         names.push(external.name.clone()?)?;
@@ -104,10 +104,10 @@ fn report_of(
 ) -> Result<(Vec<u8>, u8), NoMemory>
     ensures { IfOk result (λ r. IsReport r.0.items r.1) }
 {
-    let plan = Plan::new(program.core, rounds);
-    let colours = colours_alone(alloc, &plan)?;
-    let lines = lines_of(alloc, names, plan.core(), &colours)?;
-    let assumed = assumed_of(alloc, plan.core())?;
+    let analysis = Analysis::new(program.core, rounds);
+    let colours = colours_alone(alloc, &analysis)?;
+    let lines = lines_of(alloc, names, analysis.core(), &colours)?;
+    let assumed = assumed_of(alloc, analysis.core())?;
     let mut text = Vec::new(alloc);
     report_text(lines.as_slice(), &assumed, &mut text)?;
     Ok((text, report_status(lines.as_slice())))
@@ -131,7 +131,7 @@ fn is_listed(kind: FaultKind) -> bool
 
 /// The line of a fault of the front end. A fault without a text, or without a file, would be a form that is not built in
 /// the first file.
-fn refusal(
+pub fn refusal(
     alloc: Global,
     names: &Names,
     fault: &SourceFault,
@@ -167,7 +167,7 @@ pub(crate) fn answer_any(alloc: Global, asked: &Asked, files: &[SourceFile]) -> 
 }
 
 /// The name of the first file.
-fn first_name(files: &[SourceFile]) -> &[u8] {
+pub fn first_name(files: &[SourceFile]) -> &[u8] {
     match files {
         [file, ..] => file.name.as_bytes(),
         [] => b"",

@@ -13,4 +13,8 @@ mod telling;
 mod top;
 mod words;
 
+pub use asked::Asked;
+pub use ending::{Ending, complaint, status_number};
+pub use general::{assumed_of, first_name, lines_of, refusal};
+pub use loading::load_all;
 pub use top::survey_alone;

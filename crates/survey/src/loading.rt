@@ -73,7 +73,7 @@ fn load<S: Sources>(
 }
 
 /// Loads the files in their order.
-pub(crate) fn load_all<S: Sources>(
+pub fn load_all<S: Sources>(
     alloc: Global,
     asked: &Asked,
     sources: &mut S,
