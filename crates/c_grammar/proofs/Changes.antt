@@ -16,6 +16,8 @@ pub data Change : Type 0 where
   naming : Change
   -- no type word has been read
   fresh : Change
+  -- one has been read, or none can come any more
+  typed : Change
   -- no `else` may follow
   dangling : Change
 
@@ -28,6 +30,7 @@ becomes naming value = names
 becomes naming type = names
 becomes naming late_type = names
 becomes fresh late_type = type ∷ []
+becomes typed type = late_type ∷ []
 becomes dangling free_else = bound_else ∷ []
 becomes _ c = c ∷ []
 
@@ -37,6 +40,8 @@ was naming type = names
 was naming late_type = names
 was fresh type = type ∷ late_type ∷ []
 was fresh late_type = []
+was typed type = []
+was typed late_type = type ∷ late_type ∷ []
 was dangling bound_else = free_else ∷ bound_else ∷ []
 was dangling free_else = []
 was _ c = c ∷ []
@@ -262,6 +267,58 @@ begin = record { forward = λ A s ts e. on A s ts e; back = λ A s ts e. off A s
     off : (A : Set) (s : State) (ts : List Lexeme) → sees A (st.begin s) ts ≡ true → sees (before fresh A) s ts ≡ true
     off A s [] e = cc
     off A s (t ∷ ts) e = spread_has (was fresh) A (category (st.begin s) t.kind) (category s t.kind) e (other s t.kind)
+
+-- ---- the specifiers end
+pub end_specifiers : Changes st.end_specifiers typed
+end_specifiers = record { forward = λ A s ts e. on A s ts e; back = λ A s ts e. off A s ts e }
+  where
+    becomes_typed : (a b : Bool) → among (becomes typed (name_category a b)) (name_category a true) ≡ true
+    becomes_typed false b = refl
+    becomes_typed true false = refl
+    becomes_typed true true = refl
+
+    was_typed : (a b : Bool) → among (was typed (name_category a true)) (name_category a b) ≡ true
+    was_typed false b = refl
+    was_typed true false = refl
+    was_typed true true = refl
+
+    becomes_word : (b x : Bool) (v : ℕ) → among (becomes typed (word_category b x v)) (word_category b x v) ≡ true
+    becomes_word true true v = refl
+    becomes_word true false v = refl
+    becomes_word false x v = itself (of_word v)
+
+    was_word : (b x : Bool) (v : ℕ) → among (was typed (word_category b x v)) (word_category b x v) ≡ true
+    was_word true true v = refl
+    was_word true false v = refl
+    was_word false x v = itself (of_word v)
+
+    one : (s : State) (kind : LexemeKind) → among (becomes typed (category s kind)) (category (st.end_specifiers s) kind) ≡ true
+    one s (k.Mark m) = itself (of_mark m)
+    one s (k.Word v) = becomes_word (v == wd.else_word) s.dangling v
+    one s (k.Name x) = becomes_typed (names_type s.scopes x) (frame s).has_type
+    one s (k.Number m of) = refl
+    one s (k.Character m) = refl
+    one s (k.Text bytes) = refl
+    one s k.Extension = refl
+    one s k.End = refl
+
+    other : (s : State) (kind : LexemeKind) → among (was typed (category (st.end_specifiers s) kind)) (category s kind) ≡ true
+    other s (k.Mark m) = itself (of_mark m)
+    other s (k.Word v) = was_word (v == wd.else_word) s.dangling v
+    other s (k.Name x) = was_typed (names_type s.scopes x) (frame s).has_type
+    other s (k.Number m of) = refl
+    other s (k.Character m) = refl
+    other s (k.Text bytes) = refl
+    other s k.Extension = refl
+    other s k.End = refl
+
+    on : (A : Set) (s : State) (ts : List Lexeme) → sees A s ts ≡ true → sees (after typed A) (st.end_specifiers s) ts ≡ true
+    on A s [] e = cc
+    on A s (t ∷ ts) e = spread_has (becomes typed) A (category s t.kind) (category (st.end_specifiers s) t.kind) e (one s t.kind)
+
+    off : (A : Set) (s : State) (ts : List Lexeme) → sees A (st.end_specifiers s) ts ≡ true → sees (before typed A) s ts ≡ true
+    off A s [] e = cc
+    off A s (t ∷ ts) e = spread_has (was typed) A (category (st.end_specifiers s) t.kind) (category s t.kind) e (other s t.kind)
 
 -- ---- an `if` without `else` ends
 pub leave_dangling : Changes st.leave_dangling dangling

@@ -6,7 +6,7 @@ use Rattle.c_grammar.specs.Marks as mk
 use Rattle.c_grammar.specs.Words as wd
 use Rattle.c_grammar.specs.Items.{Mode.concrete, Sym, Out}
 use Rattle.c_grammar.specs.Modes.{may_lack_name, behind_pointer}
-use Rattle.c_grammar.specs.State.{State, read, enter, begin as begin_declaration}
+use Rattle.c_grammar.specs.State.{State, read, enter, begin as begin_declaration, end_specifiers}
 use Rattle.c_grammar.specs.Terminals.{mark}
 use Rattle.c_grammar.proofs.Categories.{Category.of_mark, Category.of_word, Category.type, Set, marks, words, sees, within, apart, sees_within, sees_apart}
 use Rattle.c_grammar.proofs.Changes.{names}
@@ -46,7 +46,7 @@ comes_to (Some m) f = f m.state m.rest
 
 abbrev pub pointers : Program (List (List ℕ))
 pointers = Program.turn enter (Program.take (mark mk.asterisk)
-    (λ u. Program.call Sym.Qualifiers [] (λ qs. Program.call Sym.Pointers (qs ∷ []) (λ ps. Program.give ps))))
+    (λ u. Program.turn end_specifiers (Program.call Sym.Qualifiers [] (λ qs. Program.call Sym.Pointers (qs ∷ []) (λ ps. Program.give ps)))))
 
 abbrev pub declaration_head : Program (Out Sym.Specifiers)
 declaration_head = Program.turn begin_declaration (Program.call Sym.Specifiers tt (λ head. Program.give head))

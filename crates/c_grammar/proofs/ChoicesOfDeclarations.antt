@@ -9,7 +9,7 @@ use Rattle.c_grammar.specs.Words as wd
 use Rattle.c_grammar.specs.Items.{Mode, Mode.concrete, Mode.parameter, Mode.grouped, Mode.abstract, Sym, In, Out, Item, term, act, nt}
 use Rattle.c_grammar.specs.Modes.{may_lack_name, name_of_mode, behind_pointer, in_parentheses}
 use Rattle.c_grammar.specs.Productions.{Rule}
-use Rattle.c_grammar.specs.State.{State, read, enter, leave}
+use Rattle.c_grammar.specs.State.{State, read, enter, leave, end_specifiers}
 use Rattle.c_grammar.specs.Terminals.{mark}
 use Rattle.c_grammar.proofs.Categories.{Category.of_mark, Category.of_word, Category.value, Category.type, Category.late_type, Set, marks, words, among, category, word_category, name_category, sees, within, apart, sees_apart, sees_within}
 use Rattle.c_grammar.proofs.Changes as ch
@@ -162,15 +162,18 @@ with_name_only a b true e f = cc
 with_name_only false b c e f = refl
 
 nested_is : (m : Mode) (s : State) (t : Lexeme) (ts : List Lexeme) → sees (of_mark mk.left_parenthesis ∷ []) s (t ∷ ts) ≡ true
-    → sees (declarator (in_parentheses m)) (read s) ts ≡ true
+    → sees (declarator (in_parentheses m)) (end_specifiers (read s)) ts ≡ true
     → may_lack_name m && (not (sees (of_mark mk.left_parenthesis ∷ []) s (t ∷ ts)) || opens_parameters s (t ∷ ts)) ≡ false
 nested_is concrete s t ts e h = refl
 nested_is parameter s t ts e h =
-    with_name_only true _ _ e (not_apart (of_mark mk.right_parenthesis ∷ declaration) (declarator grouped) (read s) ts refl h)
+    with_name_only true _ _ e (not_apart (of_mark mk.right_parenthesis ∷ declaration) (declarator grouped) (read s) ts refl
+    (ch.end_specifiers.back (declarator grouped) (read s) ts h))
 nested_is grouped s t ts e h = with_name_only true _ _ e
-    (not_apart (of_mark mk.right_parenthesis ∷ declaration) (declarator grouped) (read s) ts refl h)
+    (not_apart (of_mark mk.right_parenthesis ∷ declaration) (declarator grouped) (read s) ts refl
+    (ch.end_specifiers.back (declarator grouped) (read s) ts h))
 nested_is abstract s t ts e h =
-    with_name_only true _ _ e (not_apart (of_mark mk.right_parenthesis ∷ declaration) (declarator abstract) (read s) ts refl h)
+    with_name_only true _ _ e (not_apart (of_mark mk.right_parenthesis ∷ declaration) (declarator abstract) (read s) ts refl
+    (ch.end_specifiers.back (declarator abstract) (read s) ts h))
 
 without_name : (a b c : Bool) → a ≡ true → not b || c ≡ true → a && (not b || c) ≡ true
 without_name a b c e f = and_from a (not b || c) e f
@@ -218,7 +221,7 @@ direct_choice : (inner : Reader) (m : Mode) {k : ℕ} {a : In (Sym.DirectOf m)} 
 unfolding direct_number
 direct_choice inner m {s = s} (Rule.named x0 x1 x2 x3) (Parts.token {t = t} {ts = us} h p) =
     select_true (sees names s (t ∷ us)) 0 _ (name_among m s t us h)
-direct_choice inner m {s = s} (Rule.nested x0 x1 x2 x3 x4) (Parts.token {t = t} {ts = us} h p) =
+direct_choice inner m {s = s} (Rule.nested x0 x1 x2 x3 x4) (Parts.token {t = t} {ts = us} h (Parts.acted p)) =
     let opens = (so.mark mk.left_parenthesis).has s t h in
     select_false (sees names s (t ∷ us)) 0 _ (not_apart names (of_mark mk.left_parenthesis ∷ []) s (t ∷ us) refl opens)
     ∙ select_false (may_lack_name m && (not (sees (of_mark mk.left_parenthesis ∷ []) s (t ∷ us)) || opens_parameters s (t ∷ us))) 2 1
@@ -282,12 +285,13 @@ pointer_first (Parts.acted (Parts.token {s = r} {t = t} h p)) = (so.mark mk.aste
 -- the pointers are read
 pointed : {k : ℕ} → Complete k → (m : Mode) (b : Bool) {qs : List ℕ} {ps : List (List ℕ)} {u : Lexeme} {s : State} {ts : List Lexeme}
     {mid : State} {middle : List Lexeme}
-    → Parts k (act enter ∷ term (mark mk.asterisk) u ∷ nt Sym.Qualifiers [] qs ∷ nt Sym.Pointers (qs ∷ []) ps ∷ []) s ts mid middle
+    → Parts k (act enter ∷ term (mark mk.asterisk) u ∷ act end_specifiers ∷ nt Sym.Qualifiers [] qs ∷ nt Sym.Pointers (qs ∷ []) ps ∷ []) s ts mid middle
     → sees (of_mark mk.asterisk ∷ qualifiers) mid middle ≡ false
     → sees (direct (behind_pointer m)) mid middle ≡ b → special (reader k) (Sym.DeclaratorOf m) s ts ≡ select b 1 2
 pointed {k} all m b {qs} {ps} {u} {s} {ts} {mid} {middle} p stop e =
-    let read_them = runs Sym.Pointers all {p = pointers} (Fits.turn (Fits.take (Fits.call (Fits.call Fits.give))))
-    (Described.change ch.enter (Described.token (so.mark mk.asterisk) (Described.symbol (Described.symbol Described.none)))) refl p stop in
+    let read_them = runs Sym.Pointers all {p = pointers} (Fits.turn (Fits.take (Fits.turn (Fits.call (Fits.call Fits.give)))))
+    (Described.change ch.enter (Described.token (so.mark mk.asterisk)
+    (Described.change ch.end_specifiers (Described.symbol (Described.symbol Described.none))))) refl p stop in
     select_true (sees (of_mark mk.asterisk ∷ []) s ts) _ 0 (ch.enter.back (of_mark mk.asterisk ∷ []) s ts (pointer_first p))
     ∙ ap (λ (x : Option (Made (List (List ℕ)))). comes_to x (λ r rest. select (sees (direct (behind_pointer m)) r rest) 1 2)) read_them
     ∙ ap (λ (x : Bool). select x 1 2) e
@@ -309,13 +313,13 @@ declarator_choice all m {s = s} (Rule.plain_declarator x0 x1 x2) (Parts.seen {t 
     (not_apart (of_mark mk.asterisk ∷ []) (direct m) s (t ∷ us) (plain_first m)
     (ch.enter.back (direct m) s (t ∷ us) (begins_with (Sym.DirectOf m) refl p)))
 declarator_choice all m {s = s} (Rule.pointed_declarator x0 x1 x2 x3 x4)
-    (Parts.acted (Parts.token {t = t} h (Parts.by rq pq (Parts.by {mid = mid} {middle = middle} rp pp p)))) stop =
+    (Parts.acted (Parts.token {t = t} h (Parts.acted (Parts.by rq pq (Parts.by {mid = mid} {middle = middle} rp pp p))))) stop =
     let next = begins_with (Sym.DirectOf (behind_pointer m)) refl p in
-    pointed all m true (Parts.acted {s = s} (Parts.token {t = t} h (Parts.by rq pq (Parts.by rp pp Parts.done))))
+    pointed all m true (Parts.acted {s = s} (Parts.token {t = t} h (Parts.acted (Parts.by rq pq (Parts.by rp pp Parts.done)))))
     (not_apart (of_mark mk.asterisk ∷ qualifiers) (direct (behind_pointer m)) mid middle (behind_pointers (behind_pointer m)) next) next
 declarator_choice all m {s = s} (Rule.pointers_alone x0 x1 x2 x3 x4)
-    (Parts.acted (Parts.token {t = t} h (Parts.by rq pq (Parts.by rp pp p)))) stop =
-    pointed all m false (Parts.acted {s = s} (Parts.token {t = t} h (Parts.by rq pq (Parts.by rp pp Parts.done))))
+    (Parts.acted (Parts.token {t = t} h (Parts.acted (Parts.by rq pq (Parts.by rp pp p))))) stop =
+    pointed all m false (Parts.acted {s = s} (Parts.token {t = t} h (Parts.acted (Parts.by rq pq (Parts.by rp pp Parts.done)))))
     (pointers_end (of_mark mk.asterisk ∷ qualifiers) refl p stop)
     (pointers_end (direct (behind_pointer m)) (goes_on_with (behind_pointer m)) p stop)
 

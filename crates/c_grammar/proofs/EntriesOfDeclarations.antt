@@ -28,8 +28,8 @@ entry_InitDeclarators Rule.no_declarators =
 abbrev pub entry_MoreInitDeclarators : {a : In Sym.MoreInitDeclarators} {b : Out Sym.MoreInitDeclarators} {items : List Item}
     → Rule Sym.MoreInitDeclarators a b items → Entry Sym.MoreInitDeclarators a b items
 entry_MoreInitDeclarators (Rule.more_init_declarators x0 x1 x2 x3) =
-    entry 0 (token (so.mark m.comma) (symbol (symbol none)))
-    (take (call (call give))) refl refl
+    entry 0 (token (so.mark m.comma) (change ch.end_specifiers (symbol (symbol none))))
+    (take (turn (call (call give)))) refl refl
 entry_MoreInitDeclarators (Rule.last_init_declarator x0) =
     null_entry 1 (none)
     (give) refl (λ A. refl) (λ A. refl)
@@ -131,8 +131,8 @@ entry_Member (Rule.member_declaration x0 x1 x2 x3) =
 abbrev pub entry_MoreDeclarators : {a : In Sym.MoreDeclarators} {b : Out Sym.MoreDeclarators} {items : List Item}
     → Rule Sym.MoreDeclarators a b items → Entry Sym.MoreDeclarators a b items
 entry_MoreDeclarators (Rule.more_declarators x0 x1 x2 x3) =
-    entry 0 (token (so.mark m.comma) (symbol (symbol none)))
-    (take (call (call give))) refl refl
+    entry 0 (token (so.mark m.comma) (change ch.end_specifiers (symbol (symbol none))))
+    (take (turn (call (call give)))) refl refl
 entry_MoreDeclarators (Rule.last_declarator x0) =
     null_entry 1 (none)
     (give) refl (λ A. refl) (λ A. refl)
@@ -176,44 +176,48 @@ entry_DeclaratorOf Mode.concrete (Rule.plain_declarator x0 x1 x2) =
     entry 0 (next (change ch.enter (symbol (change ch.leave none))))
     (look (turn (call (turn give)))) refl refl
 entry_DeclaratorOf Mode.concrete (Rule.pointed_declarator x0 x1 x2 x3 x4) =
-    entry 1 (change ch.enter (token (so.mark m.asterisk) (symbol (symbol (symbol (change ch.indirect (change ch.leave none)))))))
-    (turn (take (call (call (call (turn (turn give))))))) refl refl
+    entry 1 (change ch.enter (token (so.mark m.asterisk)
+    (change ch.end_specifiers (symbol (symbol (symbol (change ch.indirect (change ch.leave none))))))))
+    (turn (take (turn (call (call (call (turn (turn give)))))))) refl refl
 entry_DeclaratorOf Mode.concrete (Rule.pointers_alone x0 x1 x2 x3 x4) =
-    entry 2 (change ch.enter (token (so.mark m.asterisk) (symbol (symbol (change ch.leave none)))))
-    (turn (take (call (call (turn give))))) refl refl
+    entry 2 (change ch.enter (token (so.mark m.asterisk) (change ch.end_specifiers (symbol (symbol (change ch.leave none))))))
+    (turn (take (turn (call (call (turn give)))))) refl refl
 entry_DeclaratorOf Mode.parameter (Rule.plain_declarator x0 x1 x2) =
     entry 0 (next (change ch.enter (symbol (change ch.leave none))))
     (look (turn (call (turn give)))) refl refl
 entry_DeclaratorOf Mode.parameter (Rule.pointed_declarator x0 x1 x2 x3 x4) =
-    entry 1 (change ch.enter (token (so.mark m.asterisk) (symbol (symbol (symbol (change ch.indirect (change ch.leave none)))))))
-    (turn (take (call (call (call (turn (turn give))))))) refl refl
+    entry 1 (change ch.enter (token (so.mark m.asterisk)
+    (change ch.end_specifiers (symbol (symbol (symbol (change ch.indirect (change ch.leave none))))))))
+    (turn (take (turn (call (call (call (turn (turn give)))))))) refl refl
 entry_DeclaratorOf Mode.parameter (Rule.pointers_alone x0 x1 x2 x3 x4) =
-    entry 2 (change ch.enter (token (so.mark m.asterisk) (symbol (symbol (change ch.leave none)))))
-    (turn (take (call (call (turn give))))) refl refl
+    entry 2 (change ch.enter (token (so.mark m.asterisk) (change ch.end_specifiers (symbol (symbol (change ch.leave none))))))
+    (turn (take (turn (call (call (turn give)))))) refl refl
 entry_DeclaratorOf Mode.grouped (Rule.plain_declarator x0 x1 x2) =
     entry 0 (next (change ch.enter (symbol (change ch.leave none))))
     (look (turn (call (turn give)))) refl refl
 entry_DeclaratorOf Mode.grouped (Rule.pointed_declarator x0 x1 x2 x3 x4) =
-    entry 1 (change ch.enter (token (so.mark m.asterisk) (symbol (symbol (symbol (change ch.indirect (change ch.leave none)))))))
-    (turn (take (call (call (call (turn (turn give))))))) refl refl
+    entry 1 (change ch.enter (token (so.mark m.asterisk)
+    (change ch.end_specifiers (symbol (symbol (symbol (change ch.indirect (change ch.leave none))))))))
+    (turn (take (turn (call (call (call (turn (turn give)))))))) refl refl
 entry_DeclaratorOf Mode.grouped (Rule.pointers_alone x0 x1 x2 x3 x4) =
-    entry 2 (change ch.enter (token (so.mark m.asterisk) (symbol (symbol (change ch.leave none)))))
-    (turn (take (call (call (turn give))))) refl refl
+    entry 2 (change ch.enter (token (so.mark m.asterisk) (change ch.end_specifiers (symbol (symbol (change ch.leave none))))))
+    (turn (take (turn (call (call (turn give)))))) refl refl
 entry_DeclaratorOf Mode.abstract (Rule.plain_declarator x0 x1 x2) =
     entry 0 (next (change ch.enter (symbol (change ch.leave none))))
     (look (turn (call (turn give)))) refl refl
 entry_DeclaratorOf Mode.abstract (Rule.pointed_declarator x0 x1 x2 x3 x4) =
-    entry 1 (change ch.enter (token (so.mark m.asterisk) (symbol (symbol (symbol (change ch.indirect (change ch.leave none)))))))
-    (turn (take (call (call (call (turn (turn give))))))) refl refl
+    entry 1 (change ch.enter (token (so.mark m.asterisk)
+    (change ch.end_specifiers (symbol (symbol (symbol (change ch.indirect (change ch.leave none))))))))
+    (turn (take (turn (call (call (call (turn (turn give)))))))) refl refl
 entry_DeclaratorOf Mode.abstract (Rule.pointers_alone x0 x1 x2 x3 x4) =
-    entry 2 (change ch.enter (token (so.mark m.asterisk) (symbol (symbol (change ch.leave none)))))
-    (turn (take (call (call (turn give))))) refl refl
+    entry 2 (change ch.enter (token (so.mark m.asterisk) (change ch.end_specifiers (symbol (symbol (change ch.leave none))))))
+    (turn (take (turn (call (call (turn give)))))) refl refl
 
 abbrev pub entry_Pointers : {a : In Sym.Pointers} {b : Out Sym.Pointers} {items : List Item} → Rule Sym.Pointers a b items
     → Entry Sym.Pointers a b items
 entry_Pointers (Rule.more_pointers x0 x1 x2 x3) =
-    entry 0 (token (so.mark m.asterisk) (symbol (symbol none)))
-    (take (call (call give))) refl refl
+    entry 0 (token (so.mark m.asterisk) (change ch.end_specifiers (symbol (symbol none))))
+    (take (turn (call (call give)))) refl refl
 entry_Pointers (Rule.last_pointer x0) =
     null_entry 1 (none)
     (give) refl (λ A. refl) (λ A. refl)
@@ -233,15 +237,17 @@ entry_DirectOf Mode.concrete (Rule.named x0 x1 x2 x3) =
     entry 0 (token so.declared_name (symbol none))
     (take (call give)) refl refl
 entry_DirectOf Mode.concrete (Rule.nested x0 x1 x2 x3 x4) =
-    entry 1 (token (so.mark m.left_parenthesis) (symbol (token (so.mark m.right_parenthesis) (symbol none))))
-    (take (call (take (call give)))) refl refl
+    entry 1 (token (so.mark m.left_parenthesis)
+    (change ch.end_specifiers (symbol (token (so.mark m.right_parenthesis) (symbol none)))))
+    (take (turn (call (take (call give))))) refl refl
 entry_DirectOf Mode.concrete (Rule.nameless x0 x1 x2 x3) = differ x3 refl
 entry_DirectOf Mode.parameter (Rule.named x0 x1 x2 x3) =
     entry 0 (token so.declared_name (symbol none))
     (take (call give)) refl refl
 entry_DirectOf Mode.parameter (Rule.nested x0 x1 x2 x3 x4) =
-    entry 1 (token (so.mark m.left_parenthesis) (symbol (token (so.mark m.right_parenthesis) (symbol none))))
-    (take (call (take (call give)))) refl refl
+    entry 1 (token (so.mark m.left_parenthesis)
+    (change ch.end_specifiers (symbol (token (so.mark m.right_parenthesis) (symbol none)))))
+    (take (turn (call (take (call give))))) refl refl
 entry_DirectOf Mode.parameter (Rule.nameless x0 x1 x2 x3) =
     entry 2 (symbol (symbol none))
     (call (call give)) refl refl
@@ -249,15 +255,17 @@ entry_DirectOf Mode.grouped (Rule.named x0 x1 x2 x3) =
     entry 0 (token so.grouped_name (symbol none))
     (take (call give)) refl refl
 entry_DirectOf Mode.grouped (Rule.nested x0 x1 x2 x3 x4) =
-    entry 1 (token (so.mark m.left_parenthesis) (symbol (token (so.mark m.right_parenthesis) (symbol none))))
-    (take (call (take (call give)))) refl refl
+    entry 1 (token (so.mark m.left_parenthesis)
+    (change ch.end_specifiers (symbol (token (so.mark m.right_parenthesis) (symbol none)))))
+    (take (turn (call (take (call give))))) refl refl
 entry_DirectOf Mode.grouped (Rule.nameless x0 x1 x2 x3) =
     entry 2 (symbol (symbol none))
     (call (call give)) refl refl
 entry_DirectOf Mode.abstract (Rule.named x0 x1 x2 x3) = differ x3 refl
 entry_DirectOf Mode.abstract (Rule.nested x0 x1 x2 x3 x4) =
-    entry 1 (token (so.mark m.left_parenthesis) (symbol (token (so.mark m.right_parenthesis) (symbol none))))
-    (take (call (take (call give)))) refl refl
+    entry 1 (token (so.mark m.left_parenthesis)
+    (change ch.end_specifiers (symbol (token (so.mark m.right_parenthesis) (symbol none)))))
+    (take (turn (call (take (call give))))) refl refl
 entry_DirectOf Mode.abstract (Rule.nameless x0 x1 x2 x3) =
     entry 2 (symbol (symbol none))
     (call (call give)) refl refl

@@ -15,6 +15,7 @@ mod Entry
 mod Firsts
 pub mod Fronts
 mod Parts
+mod Passing
 mod Programs
 mod Readers
 mod Rows

@@ -5,7 +5,7 @@ use Rattle.c_grammar.specs.Marks as m
 use Rattle.c_grammar.specs.Modes.{behind_pointer, in_parentheses}
 use Rattle.c_grammar.specs.Words as d
 use Rattle.c_grammar.proofs.Categories.{Category.of_mark, Category.of_word, Category.free_else, Category.value, Category.type, Category.late_type, Category.number, Category.character, Category.text, Category.end, Set, marks, words, within, apart}
-use Rattle.c_grammar.proofs.Changes.{Change.calm, Change.naming, Change.fresh, Change.dangling, names}
+use Rattle.c_grammar.proofs.Changes.{Change.calm, Change.naming, Change.fresh, Change.typed, Change.dangling, names}
 use Rattle.c_grammar.proofs.Firsts.{Piece, Piece.token, Piece.next, Piece.change, Piece.symbol, qualifiers, begin, empty, through, follows, begins, conts}
 use Rattle.c_grammar.proofs.Programs.{item_at}
 use Rattle.c_grammar.proofs.Sorts.{at_level, plain_words, type_words, unary_marks, assignment_marks}
@@ -84,7 +84,7 @@ rows Sym.InitDeclarators =
     (symbol Sym.DeclaratorWithInitial ∷ symbol Sym.MoreInitDeclarators ∷ []) ∷
     [] ∷ []
 rows Sym.MoreInitDeclarators =
-    (token (of_mark m.comma ∷ []) ∷ symbol Sym.DeclaratorWithInitial ∷ symbol Sym.MoreInitDeclarators ∷ []) ∷
+    (token (of_mark m.comma ∷ []) ∷ change typed ∷ symbol Sym.DeclaratorWithInitial ∷ symbol Sym.MoreInitDeclarators ∷ []) ∷
     [] ∷ []
 rows Sym.DeclaratorWithInitial =
     (symbol (Sym.DeclaratorOf Mode.concrete) ∷ change naming ∷ symbol Sym.Initial ∷ []) ∷ []
@@ -121,7 +121,7 @@ rows Sym.Member =
     (change fresh ∷ symbol Sym.Specifiers ∷ symbol (Sym.DeclaratorOf Mode.concrete) ∷ symbol Sym.MoreDeclarators ∷ token
     (of_mark m.semicolon ∷ []) ∷ change naming ∷ []) ∷ []
 rows Sym.MoreDeclarators =
-    (token (of_mark m.comma ∷ []) ∷ symbol (Sym.DeclaratorOf Mode.concrete) ∷ symbol Sym.MoreDeclarators ∷ []) ∷
+    (token (of_mark m.comma ∷ []) ∷ change typed ∷ symbol (Sym.DeclaratorOf Mode.concrete) ∷ symbol Sym.MoreDeclarators ∷ []) ∷
     [] ∷ []
 rows Sym.Enumerators =
     (symbol Sym.Enumerator ∷ symbol Sym.MoreEnumerators ∷ []) ∷ []
@@ -136,18 +136,18 @@ rows Sym.EnumeratorValue =
     [] ∷ []
 rows (Sym.DeclaratorOf k) =
     (next ∷ change calm ∷ symbol (Sym.DirectOf k) ∷ change calm ∷ []) ∷
-    (change calm ∷ token (of_mark m.asterisk ∷ []) ∷ symbol Sym.Qualifiers ∷ symbol Sym.Pointers ∷ symbol (Sym.DirectOf (behind_pointer k))
+    (change calm ∷ token (of_mark m.asterisk ∷ []) ∷ change typed ∷ symbol Sym.Qualifiers ∷ symbol Sym.Pointers ∷ symbol (Sym.DirectOf (behind_pointer k))
     ∷ change calm ∷ change calm ∷ []) ∷
-    (change calm ∷ token (of_mark m.asterisk ∷ []) ∷ symbol Sym.Qualifiers ∷ symbol Sym.Pointers ∷ change calm ∷ []) ∷ []
+    (change calm ∷ token (of_mark m.asterisk ∷ []) ∷ change typed ∷ symbol Sym.Qualifiers ∷ symbol Sym.Pointers ∷ change calm ∷ []) ∷ []
 rows Sym.Pointers =
-    (token (of_mark m.asterisk ∷ []) ∷ symbol Sym.Qualifiers ∷ symbol Sym.Pointers ∷ []) ∷
+    (token (of_mark m.asterisk ∷ []) ∷ change typed ∷ symbol Sym.Qualifiers ∷ symbol Sym.Pointers ∷ []) ∷
     [] ∷ []
 rows Sym.Qualifiers =
     (token qualifiers ∷ symbol Sym.Qualifiers ∷ []) ∷
     [] ∷ []
 rows (Sym.DirectOf k) =
     (token (name_set k) ∷ symbol Sym.Parts ∷ []) ∷
-    (token (of_mark m.left_parenthesis ∷ []) ∷ symbol (Sym.DeclaratorOf (in_parentheses k)) ∷ token (of_mark m.right_parenthesis ∷ [])
+    (token (of_mark m.left_parenthesis ∷ []) ∷ change typed ∷ symbol (Sym.DeclaratorOf (in_parentheses k)) ∷ token (of_mark m.right_parenthesis ∷ [])
     ∷ symbol Sym.Parts ∷ []) ∷
     (symbol Sym.Part ∷ symbol Sym.Parts ∷ []) ∷ []
 rows Sym.Parts =

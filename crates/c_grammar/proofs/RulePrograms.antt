@@ -11,7 +11,7 @@ use Rattle.c_tree.specs.declared.tree.Item.TheVariants as xd
 use Rattle.c_grammar.specs.Items.{Mode, Sym, In, Out}
 use Rattle.c_grammar.specs.Marks as m
 use Rattle.c_grammar.specs.Modes.{name_of_mode, behind_pointer, in_parentheses}
-use Rattle.c_grammar.specs.State.{begin, finish, declare, open_scope, close_scope, open_body, close_parameters, indirect, is_unary, is_no_unary, leave_dangling, begin_operand, end_operand, enter, leave, leave_loop}
+use Rattle.c_grammar.specs.State.{begin, end_specifiers, finish, declare, open_scope, close_scope, open_body, close_parameters, indirect, is_unary, is_no_unary, leave_dangling, begin_operand, end_operand, enter, leave, leave_loop}
 use Rattle.c_grammar.specs.Terminals as w
 use Rattle.c_grammar.specs.Terminals.{mark, word, operator, closing}
 use Rattle.c_grammar.specs.Tokens.{name_of, bytes_of, word_of}
@@ -106,7 +106,8 @@ productions Sym.InitDeclarators left =
     (call Sym.DeclaratorWithInitial tt (λ p. call Sym.MoreInitDeclarators (p ∷ []) (λ ps. give ps))) ∷
     (give []) ∷ []
 productions Sym.MoreInitDeclarators left =
-    (take (mark m.comma) (λ u. call Sym.DeclaratorWithInitial tt (λ p. call Sym.MoreInitDeclarators (left ++ p ∷ []) (λ qs. give qs)))) ∷
+    (take (mark m.comma) (λ u. turn end_specifiers
+    (call Sym.DeclaratorWithInitial tt (λ p. call Sym.MoreInitDeclarators (left ++ p ∷ []) (λ qs. give qs))))) ∷
     (give left) ∷ []
 productions Sym.DeclaratorWithInitial left =
     (call (Sym.DeclaratorOf Mode.concrete) tt
@@ -149,8 +150,8 @@ productions Sym.Member left =
     (λ p. call Sym.MoreDeclarators (p.tree ∷ [])
     (λ ps. take (mark m.semicolon) (λ u. turn finish (give (t.member_declaration head ps)))))))) ∷ []
 productions Sym.MoreDeclarators left =
-    (take (mark m.comma) (λ u. call (Sym.DeclaratorOf Mode.concrete) tt
-    (λ p. call Sym.MoreDeclarators (left ++ p.tree ∷ []) (λ qs. give qs)))) ∷
+    (take (mark m.comma) (λ u. turn end_specifiers (call (Sym.DeclaratorOf Mode.concrete) tt
+    (λ p. call Sym.MoreDeclarators (left ++ p.tree ∷ []) (λ qs. give qs))))) ∷
     (give left) ∷ []
 productions Sym.Enumerators left =
     (call Sym.Enumerator tt (λ i. call Sym.MoreEnumerators (i ∷ []) (λ is. give is))) ∷ []
@@ -167,13 +168,14 @@ productions Sym.EnumeratorValue left =
 productions (Sym.DeclaratorOf k) left =
     (look (λ u. turn enter (call (Sym.DirectOf k) tt (λ p. turn leave (give (t.declarator u [] p)))))) ∷
     (turn enter (take (mark m.asterisk)
-    (λ u. call Sym.Qualifiers [] (λ qs. call Sym.Pointers (qs ∷ [])
-    (λ ps. call (Sym.DirectOf (behind_pointer k)) tt (λ p. turn indirect (turn leave (give (t.declarator u ps p))))))))) ∷
+    (λ u. turn end_specifiers (call Sym.Qualifiers [] (λ qs. call Sym.Pointers (qs ∷ [])
+    (λ ps. call (Sym.DirectOf (behind_pointer k)) tt (λ p. turn indirect (turn leave (give (t.declarator u ps p)))))))))) ∷
     (turn enter (take (mark m.asterisk)
-    (λ u. call Sym.Qualifiers [] (λ qs. call Sym.Pointers (qs ∷ [])
-    (λ ps. turn leave (give (t.declarator u ps (t.direct_absent [])))))))) ∷ []
+    (λ u. turn end_specifiers (call Sym.Qualifiers [] (λ qs. call Sym.Pointers (qs ∷ [])
+    (λ ps. turn leave (give (t.declarator u ps (t.direct_absent []))))))))) ∷ []
 productions Sym.Pointers left =
-    (take (mark m.asterisk) (λ u. call Sym.Qualifiers [] (λ qs. call Sym.Pointers (left ++ qs ∷ []) (λ rs. give rs)))) ∷
+    (take (mark m.asterisk) (λ u. turn end_specifiers
+    (call Sym.Qualifiers [] (λ qs. call Sym.Pointers (left ++ qs ∷ []) (λ rs. give rs))))) ∷
     (give left) ∷ []
 productions Sym.Qualifiers left =
     (take w.qualifier (λ u. call Sym.Qualifiers (left ++ word_of u ∷ []) (λ rs. give rs))) ∷
@@ -181,8 +183,8 @@ productions Sym.Qualifiers left =
 productions (Sym.DirectOf k) left =
     (take (name_of_mode k) (λ u. call Sym.Parts [] (λ ps. give (t.direct_name u ps)))) ∷
     (take (mark m.left_parenthesis)
-    (λ u. call (Sym.DeclaratorOf (in_parentheses k)) tt
-    (λ p. take (mark m.right_parenthesis) (λ v. call Sym.Parts [] (λ ps. give (t.direct_nested p ps)))))) ∷
+    (λ u. turn end_specifiers (call (Sym.DeclaratorOf (in_parentheses k)) tt
+    (λ p. take (mark m.right_parenthesis) (λ v. call Sym.Parts [] (λ ps. give (t.direct_nested p ps))))))) ∷
     (call Sym.Part tt (λ p. call Sym.Parts (p ∷ []) (λ ps. give (t.direct_absent ps)))) ∷ []
 productions Sym.Parts left =
     (call Sym.Part tt (λ p. call Sym.Parts (left ++ p ∷ []) (λ qs. give qs))) ∷

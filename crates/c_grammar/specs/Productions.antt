@@ -33,7 +33,7 @@ use Rattle.c_tree.specs.declared.tree.Item.TheVariants as xd
 use Rattle.c_grammar.specs.Items.{Mode, Sym, In, Out, Item, term, ahead, act, nt}
 use Rattle.c_grammar.specs.Marks as m
 use Rattle.c_grammar.specs.Modes.{may_have_name, name_of_mode, may_lack_name, behind_pointer, in_parentheses}
-use Rattle.c_grammar.specs.State.{begin, finish, declare, open_scope, close_scope, open_body, close_parameters, indirect, is_unary, is_no_unary, leave_dangling, begin_operand, end_operand, enter, leave, leave_loop}
+use Rattle.c_grammar.specs.State.{begin, end_specifiers, finish, declare, open_scope, close_scope, open_body, close_parameters, indirect, is_unary, is_no_unary, leave_dangling, begin_operand, end_operand, enter, leave, leave_loop}
 use Rattle.c_grammar.specs.Terminals as w
 use Rattle.c_grammar.specs.Terminals.{mark, word, operator, closing}
 use Rattle.c_grammar.specs.Tokens.{name_of, bytes_of, word_of}
@@ -136,7 +136,7 @@ pub data Rule : (n : Sym) → In n → Out n → List Item → Type 0 where
       (nt Sym.DeclaratorWithInitial tt p ∷ nt Sym.MoreInitDeclarators (p ∷ []) ps ∷ [])
   last_init_declarator : (ps : List InitDeclarator) → Rule Sym.MoreInitDeclarators ps ps []
   more_init_declarators : (p : InitDeclarator) (ps qs : List InitDeclarator) (u : Lexeme) → Rule Sym.MoreInitDeclarators ps qs
-      (term (mark m.comma) u ∷ nt Sym.DeclaratorWithInitial tt p ∷ nt Sym.MoreInitDeclarators (ps ++ p ∷ []) qs ∷ [])
+      (term (mark m.comma) u ∷ act end_specifiers ∷ nt Sym.DeclaratorWithInitial tt p ∷ nt Sym.MoreInitDeclarators (ps ++ p ∷ []) qs ∷ [])
   -- a name is visible from the end of its declarator (6.2.1)
   init_declarator : (p : Declared) (value : Option Initialiser)
       → Rule Sym.DeclaratorWithInitial tt (record { declarator = p.tree; initial = value })
@@ -177,7 +177,7 @@ pub data Rule : (n : Sym) → In n → Out n → List Item → Type 0 where
       ∷ term (mark m.semicolon) u ∷ act finish ∷ [])
   last_declarator : (ps : List Declarator) → Rule Sym.MoreDeclarators ps ps []
   more_declarators : (p : Declared) (ps qs : List Declarator) (u : Lexeme) → Rule Sym.MoreDeclarators ps qs
-      (term (mark m.comma) u ∷ nt (Sym.DeclaratorOf Mode.concrete) tt p ∷ nt Sym.MoreDeclarators (ps ++ p.tree ∷ []) qs ∷ [])
+      (term (mark m.comma) u ∷ act end_specifiers ∷ nt (Sym.DeclaratorOf Mode.concrete) tt p ∷ nt Sym.MoreDeclarators (ps ++ p.tree ∷ []) qs ∷ [])
   -- enumerations (6.7.2.2); their content is one node of the nesting
   enumeration_content : (tag : Option ℕ) (items : List EnumItem) (u v x : Lexeme)
       → Rule Sym.SpecifierForm tt (sk.Enum tag (Some items))
@@ -197,27 +197,27 @@ pub data Rule : (n : Sym) → In n → Out n → List Item → Type 0 where
   no_value : Rule Sym.EnumeratorValue tt None []
   value : (a : Expr) (u : Lexeme)
       → Rule Sym.EnumeratorValue tt (Some a) (term (mark m.equal) u ∷ nt Sym.Constant tt a ∷ [])
-  -- ---- declarators (6.7.5, 6.7.6), each a node of the nesting
+  -- ---- declarators (6.7.5, 6.7.6), each a node of the nesting; a `*`, a nesting `(` and a `,` end the list of specifiers
   plain_declarator : (k : Mode) (p : Direct) (u : Lexeme) → Rule (Sym.DeclaratorOf k) tt (t.declarator u [] p)
       (ahead u ∷ act enter ∷ nt (Sym.DirectOf k) tt p ∷ act leave ∷ [])
   -- pointers (6.7.5.1)
   pointed_declarator : (k : Mode) (qs : List ℕ) (ps : List (List ℕ)) (p : Direct) (u : Lexeme)
       → Rule (Sym.DeclaratorOf k) tt (t.declarator u ps p)
-      (act enter ∷ term (mark m.asterisk) u ∷ nt Sym.Qualifiers [] qs ∷ nt Sym.Pointers (qs ∷ []) ps
+      (act enter ∷ term (mark m.asterisk) u ∷ act end_specifiers ∷ nt Sym.Qualifiers [] qs ∷ nt Sym.Pointers (qs ∷ []) ps
       ∷ nt (Sym.DirectOf (behind_pointer k)) tt p ∷ act indirect ∷ act leave ∷ [])
   pointers_alone : (k : Mode) (qs : List ℕ) (ps : List (List ℕ)) (u : Lexeme) → may_lack_name k ≡ true
       → Rule (Sym.DeclaratorOf k) tt (t.declarator u ps (t.direct_absent []))
-      (act enter ∷ term (mark m.asterisk) u ∷ nt Sym.Qualifiers [] qs ∷ nt Sym.Pointers (qs ∷ []) ps ∷ act leave ∷ [])
+      (act enter ∷ term (mark m.asterisk) u ∷ act end_specifiers ∷ nt Sym.Qualifiers [] qs ∷ nt Sym.Pointers (qs ∷ []) ps ∷ act leave ∷ [])
   last_pointer : (ps : List (List ℕ)) → Rule Sym.Pointers ps ps []
   more_pointers : (qs : List ℕ) (ps rs : List (List ℕ)) (u : Lexeme) → Rule Sym.Pointers ps rs
-      (term (mark m.asterisk) u ∷ nt Sym.Qualifiers [] qs ∷ nt Sym.Pointers (ps ++ qs ∷ []) rs ∷ [])
+      (term (mark m.asterisk) u ∷ act end_specifiers ∷ nt Sym.Qualifiers [] qs ∷ nt Sym.Pointers (ps ++ qs ∷ []) rs ∷ [])
   last_qualifier : (qs : List ℕ) → Rule Sym.Qualifiers qs qs []
   more_qualifiers : (qs rs : List ℕ) (u : Lexeme)
       → Rule Sym.Qualifiers qs rs (term w.qualifier u ∷ nt Sym.Qualifiers (qs ++ word_of u ∷ []) rs ∷ [])
   named : (k : Mode) (ps : List DeclPart) (u : Lexeme) → may_have_name k ≡ true
       → Rule (Sym.DirectOf k) tt (t.direct_name u ps) (term (name_of_mode k) u ∷ nt Sym.Parts [] ps ∷ [])
   nested : (k : Mode) (p : Declared) (ps : List DeclPart) (u v : Lexeme) → Rule (Sym.DirectOf k) tt (t.direct_nested p ps)
-      (term (mark m.left_parenthesis) u ∷ nt (Sym.DeclaratorOf (in_parentheses k)) tt p ∷ term (mark m.right_parenthesis) v
+      (term (mark m.left_parenthesis) u ∷ act end_specifiers ∷ nt (Sym.DeclaratorOf (in_parentheses k)) tt p ∷ term (mark m.right_parenthesis) v
       ∷ nt Sym.Parts [] ps ∷ [])
   nameless : (k : Mode) (p : DeclPart) (ps : List DeclPart) → may_lack_name k ≡ true
       → Rule (Sym.DirectOf k) tt (t.direct_absent ps) (nt Sym.Part tt p ∷ nt Sym.Parts (p ∷ []) ps ∷ [])

@@ -7,7 +7,7 @@ Scope = List (ℕ × Bool)
 
 -- a declaration, parameter, type name or enumerator that is being read
 pub record Frame : Type 0 where
-  -- whether `typedef` is among its specifiers, and a type word
+  -- whether `typedef` is among its specifiers, and whether no typedef name can be a type word any more: one was read, or the list has ended
   pub is_typedef : Bool
   pub has_type : Bool
   -- the name that it declares
@@ -107,6 +107,10 @@ see_typedef = with_frame (λ f. record f { is_typedef = true })
 
 abbrev pub see_type : State → State
 see_type = with_frame (λ f. record f { has_type = true })
+
+-- a `*`, a nesting `(` or a `,` ends the list of specifiers: behind it a typedef name is declared anew, as behind a type word
+abbrev pub end_specifiers : State → State
+end_specifiers = see_type
 
 -- the declared name
 abbrev pub hold : ℕ → State → State

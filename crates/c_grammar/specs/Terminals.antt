@@ -93,7 +93,7 @@ typedef_name = terminal (λ s t. is_name t.kind && names_type s.scopes (name_of 
 abbrev pub qualifier : Terminal
 qualifier = terminal (λ s t. is_word_of (d.const_word ∷ d.volatile_word ∷ d.restrict_word ∷ []) t.kind) unchanged
 
--- the name that a declarator declares (6.7.5): no typedef name where the specifiers have no type word
+-- the name that a declarator declares (6.7.5): no typedef name directly behind specifiers without a type word, where it is one itself
 abbrev pub declared_name : Terminal
 declared_name = terminal (λ s t. is_name t.kind && ((frame s).has_type || not (names_type s.scopes (name_of t)))) (λ t s. hold (name_of t) s)
 

@@ -1,4 +1,4 @@
-ghost use Rattle.std.specs.Prelude.{◌≡◌, List, [], ◌∷◌, ◌++◌, true};
+ghost use Rattle.std.specs.Prelude.{◌≡◌, Bool, List, [], ◌∷◌, ◌++◌, true};
 ghost use Rattle.std.specs.List.{list_all};
 ghost use Rattle.c_syntax.specs.Marks.{marks};
 ghost use Rattle.c_tree.specs.declared.lexeme.Lexeme.{Lexeme};
@@ -6,6 +6,7 @@ ghost use Rattle.c_tree.specs.declared.tree.Item.{Item as External};
 ghost use Rattle.c_grammar.specs.Derives.{Derives, Begins, Reaches};
 ghost use Rattle.c_grammar.specs.Files.{IsFile, IsFirstBad, BeginsFile};
 ghost use Rattle.c_grammar.specs.Items.{Sym, In, Out, Item, nt, Shape, shapes};
+ghost use Rattle.c_grammar.specs.Limits.{Passes};
 ghost use Rattle.c_grammar.specs.Marks as marks_here;
 ghost use Rattle.c_grammar.specs.Numbers.{has_mark, has_keyword};
 ghost use Rattle.c_grammar.specs.State.{State};
@@ -39,6 +40,12 @@ pub fn bad_tokens_are_no_file()
 pub fn first_bad_is_unique()
     ensures before { (tokens before behind others rest : List Lexeme) (t u : Lexeme) → IsFirstBad tokens before t behind → IsFirstBad tokens others u rest → before ≡ others }
     ensures token { (tokens before behind others rest : List Lexeme) (t u : Lexeme) → IsFirstBad tokens before t behind → IsFirstBad tokens others u rest → t ≡ u }
+{}
+
+/// In a list, a limit is passed at one token at most.
+pub fn limits_are_passed_once()
+    ensures before { (passed : State → Bool) (before behind others rest : List Lexeme) (t u : Lexeme) → Passes passed before t behind → Passes passed others u rest → before ++ t ∷ behind ≡ others ++ u ∷ rest → before ≡ others }
+    ensures token { (passed : State → Bool) (before behind others rest : List Lexeme) (t u : Lexeme) → Passes passed before t behind → Passes passed others u rest → before ++ t ∷ behind ≡ others ++ u ∷ rest → t ≡ u }
 {}
 
 /// The numbers that the grammar has for keywords and punctuators are those of the tables.

@@ -6,5 +6,5 @@ mod laws;
 
 pub use laws::{
     bad_tokens_are_no_file, beginnings_are_runs, first_bad_is_unique, fronts_begin,
-    numbers_are_those_of_the_tables, runs_are_joined, trees_are_unique,
+    limits_are_passed_once, numbers_are_those_of_the_tables, runs_are_joined, trees_are_unique,
 };
