@@ -48,7 +48,7 @@ pub(crate) fn is_above(last: Option<u32>, n: u32) -> bool
     }
 }
 
-#[tactic(auto, unfolding(crate::specs::Checking::next_constraint))]
+#[tactic(auto, unfolding(crate::specs::computed::Checking::next_constraint))]
 fn next_constraint(last: Option<Constraint>, bytes: &[u8]) -> Result<(Constraint, &[u8]), Malformed>
     ensures { Reads (λ x. (x.0, x.1.now)) result (next_constraint last bytes.now) }
 {
@@ -75,7 +75,7 @@ fn constraints_in_order(count: u32, bytes: &[u8]) -> Result<&[u8], Malformed>
     Ok(rest)
 }
 
-#[tactic(auto, unfolding(crate::specs::Checking::ordered_past))]
+#[tactic(auto, unfolding(crate::specs::computed::Checking::ordered_past))]
 pub(crate) fn constraints_past(bytes: &[u8]) -> Result<&[u8], Malformed>
     ensures { Reads (λ rest. rest.now) result (ordered_past next_constraint bytes.now) }
 {
@@ -83,7 +83,7 @@ pub(crate) fn constraints_past(bytes: &[u8]) -> Result<&[u8], Malformed>
     constraints_in_order(count, rest)
 }
 
-#[tactic(auto, unfolding(crate::specs::Checking::next_site_colour))]
+#[tactic(auto, unfolding(crate::specs::computed::Checking::next_site_colour))]
 fn next_site_colour(last: Option<u32>, bytes: &[u8]) -> Result<(u32, &[u8]), Malformed>
     ensures { Reads (λ x. (x.0, x.1.now)) result (next_site_colour last bytes.now) }
 {
@@ -107,7 +107,7 @@ fn colours_in_order(count: u32, bytes: &[u8]) -> Result<&[u8], Malformed>
     Ok(rest)
 }
 
-#[tactic(auto, unfolding(crate::specs::Checking::ordered_past))]
+#[tactic(auto, unfolding(crate::specs::computed::Checking::ordered_past))]
 pub(crate) fn colours_past(bytes: &[u8]) -> Result<&[u8], Malformed>
     ensures { Reads (λ rest. rest.now) result (ordered_past next_site_colour bytes.now) }
 {
@@ -115,7 +115,7 @@ pub(crate) fn colours_past(bytes: &[u8]) -> Result<&[u8], Malformed>
     colours_in_order(count, rest)
 }
 
-#[tactic(auto, unfolding(crate::specs::Checking::next_number))]
+#[tactic(auto, unfolding(crate::specs::computed::Checking::next_number))]
 pub(crate) fn next_number(last: Option<u32>, bytes: &[u8]) -> Result<(u32, &[u8]), Malformed>
     ensures { Reads (λ x. (x.0, x.1.now)) result (next_number last bytes.now) }
 {
@@ -139,7 +139,7 @@ fn numbers_in_order(count: u32, above: Option<u32>, bytes: &[u8]) -> Result<&[u8
     Ok(rest)
 }
 
-#[tactic(auto, unfolding(crate::specs::Checking::set_past, crate::specs::Checking::ordered_past))]
+#[tactic(auto, unfolding(crate::specs::computed::Checking::set_past, crate::specs::computed::Checking::ordered_past))]
 fn set_past(bytes: &[u8]) -> Result<&[u8], Malformed>
     ensures { Reads (λ rest. rest.now) result (set_past bytes.now) }
 {
@@ -157,7 +157,7 @@ fn past_sets(count: u32, bytes: &[u8]) -> Result<&[u8], Malformed>
     Ok(rest)
 }
 
-#[tactic(auto, unfolding(crate::specs::Checking::counted_past))]
+#[tactic(auto, unfolding(crate::specs::computed::Checking::counted_past))]
 pub(crate) fn sets_past(bytes: &[u8]) -> Result<&[u8], Malformed>
     ensures { Reads (λ rest. rest.now) result (counted_past set_past bytes.now) }
 {
@@ -165,7 +165,7 @@ pub(crate) fn sets_past(bytes: &[u8]) -> Result<&[u8], Malformed>
     past_sets(count, rest)
 }
 
-#[tactic(auto, unfolding(crate::specs::Checking::next_cluster))]
+#[tactic(auto, unfolding(crate::specs::computed::Checking::next_cluster))]
 fn next_cluster(last: Option<u32>, bytes: &[u8]) -> Result<(u32, &[u8]), Malformed>
     ensures { Reads (λ x. (x.0, x.1.now)) result (next_cluster last bytes.now) }
 {
@@ -194,7 +194,7 @@ fn clusters_in_order(count: u32, bytes: &[u8]) -> Result<&[u8], Malformed>
     Ok(rest)
 }
 
-#[tactic(auto, unfolding(crate::specs::Checking::ordered_past))]
+#[tactic(auto, unfolding(crate::specs::computed::Checking::ordered_past))]
 pub(crate) fn clusters_in_place(bytes: &[u8]) -> Result<&[u8], Malformed>
     ensures { Reads (λ rest. rest.now) result (ordered_past next_cluster bytes.now) }
 {

@@ -31,7 +31,7 @@ fn is_entry(entry: Option<i128>) -> bool
     }
 }
 
-#[tactic(auto, unfolding(crate::specs::Checking::entry_past))]
+#[tactic(auto, unfolding(crate::specs::computed::Checking::entry_past))]
 fn entry_past(bytes: &[u8]) -> Result<&[u8], Malformed>
     ensures { Reads (λ rest. rest.now) result (entry_past bytes.now) }
 {
@@ -52,7 +52,7 @@ fn past_entries(count: u32, bytes: &[u8]) -> Result<&[u8], Malformed>
     Ok(rest)
 }
 
-#[tactic(auto, unfolding(crate::specs::Checking::bounds_past))]
+#[tactic(auto, unfolding(crate::specs::computed::Checking::bounds_past))]
 fn bounds_past(bytes: &[u8]) -> Result<&[u8], Malformed>
     ensures { Reads (λ rest. rest.now) result (bounds_past bytes.now) }
 {
@@ -76,7 +76,7 @@ fn past_matrices(count: u32, bytes: &[u8]) -> Result<&[u8], Malformed>
     Ok(rest)
 }
 
-#[tactic(auto, unfolding(crate::specs::Checking::matrices_past, crate::specs::Checking::counted_past))]
+#[tactic(auto, unfolding(crate::specs::computed::Checking::matrices_past, crate::specs::computed::Checking::counted_past))]
 fn matrices_past(bytes: &[u8]) -> Result<&[u8], Malformed>
     ensures { Reads (λ rest. rest.now) result (matrices_past bytes.now) }
 {
@@ -84,7 +84,7 @@ fn matrices_past(bytes: &[u8]) -> Result<&[u8], Malformed>
     past_matrices(count, rest)
 }
 
-#[tactic(auto, unfolding(crate::specs::Checking::state_past))]
+#[tactic(auto, unfolding(crate::specs::computed::Checking::state_past))]
 fn state_past(bytes: &[u8]) -> Result<&[u8], Malformed>
     ensures { Reads (λ rest. rest.now) result (state_past bytes.now) }
 {
@@ -95,7 +95,7 @@ fn state_past(bytes: &[u8]) -> Result<&[u8], Malformed>
     matrices_past(rest)
 }
 
-#[tactic(auto, unfolding(crate::specs::Checking::next_call))]
+#[tactic(auto, unfolding(crate::specs::computed::Checking::next_call))]
 fn next_call(last: Option<u32>, bytes: &[u8]) -> Result<(u32, &[u8]), Malformed>
     ensures { Reads (λ x. (x.0, x.1.now)) result (next_call last bytes.now) }
 {
@@ -117,7 +117,7 @@ fn calls_in_order(count: u32, bytes: &[u8]) -> Result<&[u8], Malformed>
     Ok(rest)
 }
 
-#[tactic(auto, unfolding(crate::specs::Checking::ordered_past))]
+#[tactic(auto, unfolding(crate::specs::computed::Checking::ordered_past))]
 fn calls_past(bytes: &[u8]) -> Result<&[u8], Malformed>
     ensures { Reads (λ rest. rest.now) result (ordered_past next_call bytes.now) }
 {
@@ -131,7 +131,7 @@ fn is_write(write: WritePart) -> bool
     write.low <= write.high
 }
 
-#[tactic(auto, unfolding(crate::specs::Checking::next_write))]
+#[tactic(auto, unfolding(crate::specs::computed::Checking::next_write))]
 fn next_write(last: Option<u32>, bytes: &[u8]) -> Result<(u32, &[u8]), Malformed>
     ensures { Reads (λ x. (x.0, x.1.now)) result (next_write last bytes.now) }
 {
@@ -158,7 +158,7 @@ fn writes_in_order(count: u32, bytes: &[u8]) -> Result<&[u8], Malformed>
     Ok(rest)
 }
 
-#[tactic(auto, unfolding(crate::specs::Checking::ordered_past))]
+#[tactic(auto, unfolding(crate::specs::computed::Checking::ordered_past))]
 fn writes_past(bytes: &[u8]) -> Result<&[u8], Malformed>
     ensures { Reads (λ rest. rest.now) result (ordered_past next_write bytes.now) }
 {
@@ -166,7 +166,7 @@ fn writes_past(bytes: &[u8]) -> Result<&[u8], Malformed>
     writes_in_order(count, rest)
 }
 
-#[tactic(auto, unfolding(crate::specs::Checking::summary_past))]
+#[tactic(auto, unfolding(crate::specs::computed::Checking::summary_past))]
 pub(crate) fn summary_past(bytes: &[u8]) -> Result<&[u8], Malformed>
     ensures { Reads (λ rest. rest.now) result (summary_past bytes.now) }
 {

@@ -12,7 +12,7 @@ use core_ir::{Solution, Stored};
 use std::alloc::Global;
 use sv_base::NoMemory;
 
-#[tactic(auto, unfolding(crate::specs::Reading::content_at))]
+#[tactic(auto, unfolding(crate::specs::computed::Reading::content_at))]
 fn content(alloc: Global, kind: u8, bytes: &[u8]) -> Result<Stored, Refusal>
     ensures { Gives stored_of result (content_at kind bytes.now) }
 {

@@ -16,7 +16,7 @@ pub(crate) fn byte_at(bytes: &[u8]) -> Result<(u8, &[u8]), Malformed>
     }
 }
 
-#[tactic(auto, unfolding(crate::specs::Reading::number_at))]
+#[tactic(auto, unfolding(crate::specs::computed::Reading::number_at))]
 pub(crate) fn number_at(bytes: &[u8]) -> Result<(u32, &[u8]), Malformed>
     ensures { Reads (λ x. (x.0, x.1.now)) result (number_at bytes.now) }
 {
@@ -37,7 +37,7 @@ fn unsigned_of(front: &[u8]) -> u128
     u128::from_be_bytes(bytes)
 }
 
-#[tactic(auto, unfolding(crate::specs::Reading::signed_at))]
+#[tactic(auto, unfolding(crate::specs::computed::Reading::signed_at))]
 pub(crate) fn signed_at(bytes: &[u8]) -> Result<(i128, &[u8]), Malformed>
     ensures { Reads (λ x. (x.0, x.1.now)) result (signed_at bytes.now) }
 {
@@ -59,7 +59,7 @@ pub(crate) fn flag_at(bytes: &[u8]) -> Result<(bool, &[u8]), Malformed>
     }
 }
 
-#[tactic(auto, unfolding(crate::specs::Reading::entry_at))]
+#[tactic(auto, unfolding(crate::specs::computed::Reading::entry_at))]
 pub(crate) fn entry_at(bytes: &[u8]) -> Result<(Option<i128>, &[u8]), Malformed>
     ensures { Reads (λ x. (x.0, x.1.now)) result (entry_at bytes.now) }
 {

@@ -25,7 +25,7 @@ fn constraints_of(
     Ok((constraints, rest))
 }
 
-#[tactic(auto, unfolding(crate::specs::Reading::counted_at))]
+#[tactic(auto, unfolding(crate::specs::computed::Reading::counted_at))]
 pub(crate) fn constraints(alloc: Global, bytes: &[u8]) -> Result<(Vec<Constraint>, &[u8]), Refusal>
     ensures { Gives (λ x. (x.0.items, x.1.now)) result (counted_at constraint_at bytes.now) }
 {
@@ -46,7 +46,7 @@ fn numbers_of(alloc: Global, count: u32, bytes: &[u8]) -> Result<(Vec<u32>, &[u8
     Ok((numbers, rest))
 }
 
-#[tactic(auto, unfolding(crate::specs::Reading::counted_at))]
+#[tactic(auto, unfolding(crate::specs::computed::Reading::counted_at))]
 pub(crate) fn numbers(alloc: Global, bytes: &[u8]) -> Result<(Vec<u32>, &[u8]), Refusal>
     ensures { Gives (λ x. (x.0.items, x.1.now)) result (counted_at number_at bytes.now) }
 {
@@ -67,7 +67,7 @@ fn lists_of(alloc: Global, count: u32, bytes: &[u8]) -> Result<(Vec<Vec<u32>>, &
     Ok((lists, rest))
 }
 
-#[tactic(auto, unfolding(crate::specs::Reading::counted_at))]
+#[tactic(auto, unfolding(crate::specs::computed::Reading::counted_at))]
 pub(crate) fn lists(alloc: Global, bytes: &[u8]) -> Result<(Vec<Vec<u32>>, &[u8]), Refusal>
     ensures { Gives (λ x. (lists_of x.0.items, x.1.now)) result (counted_at numbers_at bytes.now) }
 {
@@ -92,7 +92,7 @@ fn colours_of(
     Ok((colours, rest))
 }
 
-#[tactic(auto, unfolding(crate::specs::Reading::counted_at))]
+#[tactic(auto, unfolding(crate::specs::computed::Reading::counted_at))]
 pub(crate) fn colours(
     alloc: Global,
     bytes: &[u8],

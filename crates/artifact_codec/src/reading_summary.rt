@@ -38,7 +38,7 @@ fn matrices_of(alloc: Global, count: u32, bytes: &[u8]) -> Result<(Vec<Bounds>, 
     Ok((matrices, rest))
 }
 
-#[tactic(auto, unfolding(crate::specs::Reading::counted_at))]
+#[tactic(auto, unfolding(crate::specs::computed::Reading::counted_at))]
 pub(crate) fn matrices(alloc: Global, bytes: &[u8]) -> Result<(Vec<Bounds>, &[u8]), Refusal>
     ensures { Gives (λ x. (all_bounds x.0.items, x.1.now)) result (counted_at bounds_at bytes.now) }
 {
@@ -59,7 +59,7 @@ fn calls_of(alloc: Global, count: u32, bytes: &[u8]) -> Result<(Vec<CallPart>, &
     Ok((calls, rest))
 }
 
-#[tactic(auto, unfolding(crate::specs::Reading::counted_at))]
+#[tactic(auto, unfolding(crate::specs::computed::Reading::counted_at))]
 pub(crate) fn calls(alloc: Global, bytes: &[u8]) -> Result<(Vec<CallPart>, &[u8]), Refusal>
     ensures { Gives (λ x. (map call_of x.0.items, x.1.now)) result (counted_at call_at bytes.now) }
 {
@@ -80,7 +80,7 @@ fn writes_of(alloc: Global, count: u32, bytes: &[u8]) -> Result<(Vec<WritePart>,
     Ok((writes, rest))
 }
 
-#[tactic(auto, unfolding(crate::specs::Reading::counted_at))]
+#[tactic(auto, unfolding(crate::specs::computed::Reading::counted_at))]
 pub(crate) fn writes(alloc: Global, bytes: &[u8]) -> Result<(Vec<WritePart>, &[u8]), Refusal>
     ensures { Gives (λ x. (x.0.items, x.1.now)) result (counted_at write_at bytes.now) }
 {
@@ -88,7 +88,7 @@ pub(crate) fn writes(alloc: Global, bytes: &[u8]) -> Result<(Vec<WritePart>, &[u
     writes_of(alloc, count, rest)
 }
 
-#[tactic(auto, unfolding(crate::specs::Reading::bounds_at))]
+#[tactic(auto, unfolding(crate::specs::computed::Reading::bounds_at))]
 fn bounds(alloc: Global, bytes: &[u8]) -> Result<(Bounds, &[u8]), Refusal>
     ensures { Gives (λ x. (bounds_of x.0, x.1.now)) result (bounds_at bytes.now) }
 {
@@ -97,7 +97,7 @@ fn bounds(alloc: Global, bytes: &[u8]) -> Result<(Bounds, &[u8]), Refusal>
     Ok((Bounds { size, entries }, rest))
 }
 
-#[tactic(auto, unfolding(crate::specs::Reading::state_at))]
+#[tactic(auto, unfolding(crate::specs::computed::Reading::state_at))]
 fn state(alloc: Global, bytes: &[u8]) -> Result<(Option<Vec<Bounds>>, &[u8]), Refusal>
     ensures { Gives (λ x. (some_bounds x.0, x.1.now)) result (state_at bytes.now) }
 {
@@ -109,7 +109,7 @@ fn state(alloc: Global, bytes: &[u8]) -> Result<(Option<Vec<Bounds>>, &[u8]), Re
     Ok((Some(matrices), rest))
 }
 
-#[tactic(auto, unfolding(crate::specs::Reading::call_at))]
+#[tactic(auto, unfolding(crate::specs::computed::Reading::call_at))]
 fn call(alloc: Global, bytes: &[u8]) -> Result<(CallPart, &[u8]), Refusal>
     ensures { Gives (λ x. (call_of x.0, x.1.now)) result (call_at bytes.now) }
 {
@@ -118,7 +118,7 @@ fn call(alloc: Global, bytes: &[u8]) -> Result<(CallPart, &[u8]), Refusal>
     Ok((CallPart { callee, entry }, rest))
 }
 
-#[tactic(auto, unfolding(crate::specs::Reading::summary_at))]
+#[tactic(auto, unfolding(crate::specs::computed::Reading::summary_at))]
 pub(crate) fn summary(alloc: Global, bytes: &[u8]) -> Result<(Artifact, &[u8]), Refusal>
     ensures { Gives (λ x. (artifact_of x.0, x.1.now)) result (summary_at bytes.now) }
 {

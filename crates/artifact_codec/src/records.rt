@@ -5,7 +5,7 @@ use crate::refusal::Malformed;
 use core_ir::{Constraint, WritePart};
 use sv_base::{Colour, SiteId};
 
-#[tactic(auto, unfolding(crate::specs::Reading::constraint_at))]
+#[tactic(auto, unfolding(crate::specs::computed::Reading::constraint_at))]
 pub(crate) fn constraint_at(bytes: &[u8]) -> Result<(Constraint, &[u8]), Malformed>
     ensures { Reads (λ x. (x.0, x.1.now)) result (constraint_at bytes.now) }
 {
@@ -22,7 +22,7 @@ pub(crate) fn constraint_at(bytes: &[u8]) -> Result<(Constraint, &[u8]), Malform
     Ok((constraint, rest))
 }
 
-#[tactic(auto, unfolding(crate::specs::Reading::write_at))]
+#[tactic(auto, unfolding(crate::specs::computed::Reading::write_at))]
 pub(crate) fn write_at(bytes: &[u8]) -> Result<(WritePart, &[u8]), Malformed>
     ensures { Reads (λ x. (x.0, x.1.now)) result (write_at bytes.now) }
 {
@@ -32,7 +32,7 @@ pub(crate) fn write_at(bytes: &[u8]) -> Result<(WritePart, &[u8]), Malformed>
     Ok((WritePart { class, low, high }, rest))
 }
 
-#[tactic(auto, unfolding(crate::specs::Reading::site_colour_at))]
+#[tactic(auto, unfolding(crate::specs::computed::Reading::site_colour_at))]
 pub(crate) fn site_colour_at(bytes: &[u8]) -> Result<((SiteId, Colour), &[u8]), Malformed>
     ensures { Reads (λ x. (x.0, x.1.now)) result (site_colour_at bytes.now) }
 {

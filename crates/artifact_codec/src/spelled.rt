@@ -10,7 +10,7 @@ use crate::checking_summary::summary_past;
 use crate::refusal::Malformed;
 use crate::window::registers_distinct;
 
-#[tactic(auto, unfolding(crate::specs::Checking::clusters_past))]
+#[tactic(auto, unfolding(crate::specs::computed::Checking::clusters_past))]
 fn clusters_past(bytes: &[u8]) -> Result<&[u8], Malformed>
     ensures { Reads (λ rest. rest.now) result (clusters_past bytes.now) }
 {
@@ -21,7 +21,7 @@ fn clusters_past(bytes: &[u8]) -> Result<&[u8], Malformed>
     Ok(rest)
 }
 
-#[tactic(auto, unfolding(crate::specs::Checking::content_past))]
+#[tactic(auto, unfolding(crate::specs::computed::Checking::content_past))]
 fn content_past(kind: u8, bytes: &[u8]) -> Result<&[u8], Malformed>
     ensures { Reads (λ rest. rest.now) result (content_past kind bytes.now) }
 {
@@ -35,7 +35,7 @@ fn content_past(kind: u8, bytes: &[u8]) -> Result<&[u8], Malformed>
     }
 }
 
-#[tactic(auto, unfolding(crate::specs::Checking::is_content))]
+#[tactic(auto, unfolding(crate::specs::computed::Checking::is_content))]
 pub(crate) fn is_content(kind: u8, bytes: &[u8]) -> bool
     ensures { result ≡ is_content kind bytes.now }
 {

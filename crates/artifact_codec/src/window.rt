@@ -33,7 +33,7 @@ fn lesser(next: Option<u32>, n: u32) -> u32
     }
 }
 
-#[tactic(auto, unfolding(crate::specs::Windows::mark))]
+#[tactic(auto, unfolding(crate::specs::computed::Windows::mark))]
 fn mark(window: &mut Window, n: u32) -> Result<(), Malformed>
     ensures { Reads (λ _. window.new) result (mark window.old n) }
 {
@@ -64,7 +64,7 @@ fn mark_numbers<'a>(window: &mut Window, count: u32, bytes: &'a [u8]) -> Result<
     Ok(rest)
 }
 
-#[tactic(auto, unfolding(crate::specs::Windows::mark_list))]
+#[tactic(auto, unfolding(crate::specs::computed::Windows::mark_list))]
 fn mark_list<'a>(window: &mut Window, bytes: &'a [u8]) -> Result<&'a [u8], Malformed>
     ensures { Reads (λ rest. (window.new, rest.now)) result (mark_list window.old bytes.now) }
 {
@@ -82,7 +82,7 @@ fn mark_lists<'a>(window: &mut Window, count: u32, bytes: &'a [u8]) -> Result<&'
     Ok(rest)
 }
 
-#[tactic(auto, unfolding(crate::specs::Windows::mark_counted))]
+#[tactic(auto, unfolding(crate::specs::computed::Windows::mark_counted))]
 fn mark_counted(window: &mut Window, bytes: &[u8]) -> Result<(), Malformed>
     ensures { Reads (λ _. window.new) result (mark_counted window.old bytes.now) }
 {

@@ -92,7 +92,7 @@ fn escape(behind: &[u8]) -> (Character, usize)
 }
 
 /// The character at the front, with its length.
-#[tactic(auto, unfolding(crate::specs::Values::character_at))]
+#[tactic(auto, unfolding(crate::specs::computed::Values::character_at))]
 pub(crate) fn character_at(text: &[u8]) -> (Character, usize)
     ensures value { result ≡ character_at text.now }
     ensures within { result.1 ≤ length text.now }

@@ -183,7 +183,7 @@ fn hexadecimal_in(text: &[u8]) -> Option<(u64, IntType)>
 }
 
 /// The value and the type of an integer constant.
-#[tactic(auto, unfolding(crate::specs::Values::constant))]
+#[tactic(auto, unfolding(crate::specs::computed::Values::constant))]
 pub(crate) fn constant(text: &[u8]) -> Option<(u64, IntType)>
     ensures { result ≡ constant text.now }
 {

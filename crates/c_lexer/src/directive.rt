@@ -67,7 +67,7 @@ fn name_in(alloc: Global, text: &[u8]) -> Result<Option<Quoted<'_>>, AllocError>
 }
 
 /// A name in quotes behind white space.
-#[tactic(auto, unfolding(crate::specs::Settings::named))]
+#[tactic(auto, unfolding(crate::specs::computed::Settings::named))]
 fn named(alloc: Global, text: &[u8]) -> Result<Option<Quoted<'_>>, AllocError>
     ensures { IfOk result (λ found. MatchOption found (named text.now ≡ None) (λ q. named text.now ≡ Some (q.name, q.behind.now))) }
 {
@@ -184,7 +184,7 @@ fn line_or_marker(alloc: Global, at: &[u8]) -> Result<Option<Setting>, AllocErro
 }
 
 /// What a directive sets, by what is left of its line behind the `#`.
-#[tactic(auto, unfolding(crate::specs::Settings::setting_of))]
+#[tactic(auto, unfolding(crate::specs::computed::Settings::setting_of))]
 pub(crate) fn setting_of(alloc: Global, text: &[u8]) -> Result<Option<Setting>, AllocError>
     ensures { IfOk result (λ found. found ≡ setting_of text.now) }
 {

@@ -17,7 +17,7 @@ fn period(rest: &[u8]) -> (u8, usize)
 }
 
 /// The mark at the front of a text that begins with `-`, with its length; `rest` is what stands behind that byte.
-#[tactic(auto, unfolding(crate::specs::Marks::mark_len))]
+#[tactic(auto, unfolding(crate::specs::computed::Marks::mark_len))]
 fn minus(rest: &[u8]) -> (u8, usize)
     ensures value { Some result ≡ mark_len (45 ∷ rest.now) }
     ensures within { result.1 ≤ length rest.now + 1 }
@@ -32,7 +32,7 @@ fn minus(rest: &[u8]) -> (u8, usize)
 }
 
 /// The mark at the front of a text that begins with `+`, with its length; `rest` is what stands behind that byte.
-#[tactic(auto, unfolding(crate::specs::Marks::mark_len))]
+#[tactic(auto, unfolding(crate::specs::computed::Marks::mark_len))]
 fn plus(rest: &[u8]) -> (u8, usize)
     ensures value { Some result ≡ mark_len (43 ∷ rest.now) }
     ensures within { result.1 ≤ length rest.now + 1 }
@@ -46,7 +46,7 @@ fn plus(rest: &[u8]) -> (u8, usize)
 }
 
 /// The mark at the front of a text that begins with `&`, with its length; `rest` is what stands behind that byte.
-#[tactic(auto, unfolding(crate::specs::Marks::mark_len))]
+#[tactic(auto, unfolding(crate::specs::computed::Marks::mark_len))]
 fn ampersand(rest: &[u8]) -> (u8, usize)
     ensures value { Some result ≡ mark_len (38 ∷ rest.now) }
     ensures within { result.1 ≤ length rest.now + 1 }
@@ -60,7 +60,7 @@ fn ampersand(rest: &[u8]) -> (u8, usize)
 }
 
 /// The mark at the front of a text that begins with `*`, with its length; `rest` is what stands behind that byte.
-#[tactic(auto, unfolding(crate::specs::Marks::mark_len))]
+#[tactic(auto, unfolding(crate::specs::computed::Marks::mark_len))]
 fn asterisk(rest: &[u8]) -> (u8, usize)
     ensures value { Some result ≡ mark_len (42 ∷ rest.now) }
     ensures within { result.1 ≤ length rest.now + 1 }
@@ -73,7 +73,7 @@ fn asterisk(rest: &[u8]) -> (u8, usize)
 }
 
 /// The mark at the front of a text that begins with `!`, with its length; `rest` is what stands behind that byte.
-#[tactic(auto, unfolding(crate::specs::Marks::mark_len))]
+#[tactic(auto, unfolding(crate::specs::computed::Marks::mark_len))]
 fn exclamation(rest: &[u8]) -> (u8, usize)
     ensures value { Some result ≡ mark_len (33 ∷ rest.now) }
     ensures within { result.1 ≤ length rest.now + 1 }
@@ -86,7 +86,7 @@ fn exclamation(rest: &[u8]) -> (u8, usize)
 }
 
 /// The mark at the front of a text that begins with `/`, with its length; `rest` is what stands behind that byte.
-#[tactic(auto, unfolding(crate::specs::Marks::mark_len))]
+#[tactic(auto, unfolding(crate::specs::computed::Marks::mark_len))]
 fn slash(rest: &[u8]) -> (u8, usize)
     ensures value { Some result ≡ mark_len (47 ∷ rest.now) }
     ensures within { result.1 ≤ length rest.now + 1 }
@@ -99,7 +99,7 @@ fn slash(rest: &[u8]) -> (u8, usize)
 }
 
 /// The mark at the front of a text that begins with `%`, with its length; `rest` is what stands behind that byte.
-#[tactic(auto, unfolding(crate::specs::Marks::mark_len))]
+#[tactic(auto, unfolding(crate::specs::computed::Marks::mark_len))]
 fn percent(rest: &[u8]) -> (u8, usize)
     ensures value { Some result ≡ mark_len (37 ∷ rest.now) }
     ensures within { result.1 ≤ length rest.now + 1 }
@@ -113,7 +113,7 @@ fn percent(rest: &[u8]) -> (u8, usize)
 }
 
 /// The mark at the front of a text that begins with `<`, with its length; `rest` is what stands behind that byte.
-#[tactic(auto, unfolding(crate::specs::Marks::mark_len))]
+#[tactic(auto, unfolding(crate::specs::computed::Marks::mark_len))]
 fn less(rest: &[u8]) -> (u8, usize)
     ensures value { Some result ≡ mark_len (60 ∷ rest.now) }
     ensures within { result.1 ≤ length rest.now + 1 }
@@ -130,7 +130,7 @@ fn less(rest: &[u8]) -> (u8, usize)
 }
 
 /// The mark at the front of a text that begins with `>`, with its length; `rest` is what stands behind that byte.
-#[tactic(auto, unfolding(crate::specs::Marks::mark_len))]
+#[tactic(auto, unfolding(crate::specs::computed::Marks::mark_len))]
 fn greater(rest: &[u8]) -> (u8, usize)
     ensures value { Some result ≡ mark_len (62 ∷ rest.now) }
     ensures within { result.1 ≤ length rest.now + 1 }
@@ -145,7 +145,7 @@ fn greater(rest: &[u8]) -> (u8, usize)
 }
 
 /// The mark at the front of a text that begins with `=`, with its length; `rest` is what stands behind that byte.
-#[tactic(auto, unfolding(crate::specs::Marks::mark_len))]
+#[tactic(auto, unfolding(crate::specs::computed::Marks::mark_len))]
 fn equal(rest: &[u8]) -> (u8, usize)
     ensures value { Some result ≡ mark_len (61 ∷ rest.now) }
     ensures within { result.1 ≤ length rest.now + 1 }
@@ -158,7 +158,7 @@ fn equal(rest: &[u8]) -> (u8, usize)
 }
 
 /// The mark at the front of a text that begins with `^`, with its length; `rest` is what stands behind that byte.
-#[tactic(auto, unfolding(crate::specs::Marks::mark_len))]
+#[tactic(auto, unfolding(crate::specs::computed::Marks::mark_len))]
 fn caret(rest: &[u8]) -> (u8, usize)
     ensures value { Some result ≡ mark_len (94 ∷ rest.now) }
     ensures within { result.1 ≤ length rest.now + 1 }
@@ -171,7 +171,7 @@ fn caret(rest: &[u8]) -> (u8, usize)
 }
 
 /// The mark at the front of a text that begins with `|`, with its length; `rest` is what stands behind that byte.
-#[tactic(auto, unfolding(crate::specs::Marks::mark_len))]
+#[tactic(auto, unfolding(crate::specs::computed::Marks::mark_len))]
 fn bar(rest: &[u8]) -> (u8, usize)
     ensures value { Some result ≡ mark_len (124 ∷ rest.now) }
     ensures within { result.1 ≤ length rest.now + 1 }
@@ -185,7 +185,7 @@ fn bar(rest: &[u8]) -> (u8, usize)
 }
 
 /// The mark at the front of a text that begins with `:`, with its length; `rest` is what stands behind that byte.
-#[tactic(auto, unfolding(crate::specs::Marks::mark_len))]
+#[tactic(auto, unfolding(crate::specs::computed::Marks::mark_len))]
 fn colon(rest: &[u8]) -> (u8, usize)
     ensures value { Some result ≡ mark_len (58 ∷ rest.now) }
     ensures within { result.1 ≤ length rest.now + 1 }
@@ -198,7 +198,7 @@ fn colon(rest: &[u8]) -> (u8, usize)
 }
 
 /// The longest punctuator at the front, with its length in bytes.
-#[tactic(auto, unfolding(crate::specs::Marks::mark_len))]
+#[tactic(auto, unfolding(crate::specs::computed::Marks::mark_len))]
 pub(crate) fn mark_len(text: &[u8]) -> Option<(u8, usize)>
     ensures value { result ≡ mark_len text.now }
     ensures within { IfSome result (λ r. (0 < r.1) × (r.1 ≤ length text.now)) }

@@ -147,7 +147,7 @@ fn unquoted(text: &[u8]) -> &[u8]
 }
 
 /// The kind of a token by its shape and its text, or the fault that refuses it.
-#[tactic(auto, unfolding(crate::specs::Values::meaning))]
+#[tactic(auto, unfolding(crate::specs::computed::Values::meaning))]
 pub(crate) fn meaning(is_wide: bool, shape: Shape, text: &[u8]) -> Result<TokenKind, FaultKind>
     ensures { result ≡ meaning is_wide shape text.now }
 {

@@ -66,7 +66,7 @@ fn begins_with_digit(bytes: &[u8]) -> bool
 }
 
 /// The shape and the length of the token at the front.
-#[tactic(auto, unfolding(crate::specs::Lengths::shape_at))]
+#[tactic(auto, unfolding(crate::specs::computed::Lengths::shape_at))]
 pub(crate) fn shape_at(text: &[u8]) -> Option<(Shape, usize)>
     ensures value { result ≡ shape_at text.now }
     ensures within { IfSome result (λ p. (0 < p.1) × (p.1 ≤ length text.now)) }

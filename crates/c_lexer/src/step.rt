@@ -34,7 +34,7 @@ fn fault(kind: FaultKind, spot: Spot) -> SourceFault
 }
 
 /// A comment of the kind `/*`, whose two bytes stand at the front.
-#[tactic(auto, unfolding(crate::specs::Scan::block_comment))]
+#[tactic(auto, unfolding(crate::specs::computed::Scan::block_comment))]
 fn block_comment<'a>(spot: Spot, text: &'a [u8]) -> Result<Piece<'a>, FaultKind>
     requires within { IsWithin spot (length text.now) }
     requires opens { 2 ≤ length text.now }
@@ -54,7 +54,7 @@ fn block_comment<'a>(spot: Spot, text: &'a [u8]) -> Result<Piece<'a>, FaultKind>
 }
 
 /// A comment of the kind `//`.
-#[tactic(auto, unfolding(crate::specs::Scan::line_comment))]
+#[tactic(auto, unfolding(crate::specs::computed::Scan::line_comment))]
 fn line_comment<'a>(spot: Spot, text: &'a [u8]) -> Piece<'a>
     requires within { IsWithin spot (length text.now) }
     ensures { line_comment spot text.now ≡ step result.spot result.token result.rest.now }
@@ -126,7 +126,7 @@ fn set<'a>(
 }
 
 /// A line that begins with `#`.
-#[tactic(auto, unfolding(crate::specs::Scan::directive))]
+#[tactic(auto, unfolding(crate::specs::computed::Scan::directive))]
 fn directive<'a>(
     alloc: Global,
     names: &mut Names,
@@ -171,7 +171,7 @@ fn counted<'a>(
 }
 
 /// A token.
-#[tactic(auto, unfolding(crate::specs::Scan::token))]
+#[tactic(auto, unfolding(crate::specs::computed::Scan::token))]
 fn token<'a>(spot: Spot, text: &'a [u8]) -> Result<Piece<'a>, FaultKind>
     requires within { IsWithin spot (length text.now) }
     ensures { MatchResult result (λ p. token spot text.now ≡ Ok (step p.spot p.token p.rest.now)) (λ e. token spot text.now ≡ Err e) }
@@ -186,7 +186,7 @@ fn token<'a>(spot: Spot, text: &'a [u8]) -> Result<Piece<'a>, FaultKind>
 }
 
 /// A piece that is no directive.
-#[tactic(auto, unfolding(crate::specs::Scan::plain))]
+#[tactic(auto, unfolding(crate::specs::computed::Scan::plain))]
 fn plain<'a>(spot: Spot, text: &'a [u8]) -> Result<Piece<'a>, FaultKind>
     requires within { IsWithin spot (length text.now) }
     ensures { MatchResult result (λ p. plain spot text.now ≡ Ok (step p.spot p.token p.rest.now)) (λ e. plain spot text.now ≡ Err e) }
@@ -222,7 +222,7 @@ fn begins_directive(spot: Spot, text: &[u8]) -> bool
 }
 
 /// One piece of a text that is not empty.
-#[tactic(auto, unfolding(crate::specs::Scan::turn))]
+#[tactic(auto, unfolding(crate::specs::computed::Scan::turn))]
 pub(crate) fn turn<'a>(
     alloc: Global,
     names: &mut Names,

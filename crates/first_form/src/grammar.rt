@@ -13,7 +13,7 @@ use std::alloc::Global;
 const GREATEST_SIZE: u32 = 268_435_456;
 
 /// "int" name "[" number "]" ";"
-#[tactic(auto, unfolding(crate::specs::Reading::array_at))]
+#[tactic(auto, unfolding(crate::specs::computed::Reading::array_at))]
 fn array(alloc: Global, cursor: &mut Cursor) -> Result<Array, Refusal>
     ensures { Gives (λ array. (array, cursor.new)) result (array_at cursor.old) }
 {
@@ -45,7 +45,7 @@ fn arrays(alloc: Global, cursor: &mut Cursor) -> Result<Items<Array>, Refusal>
 }
 
 /// "int" "main" "(" "void" ")" "{"
-#[tactic(auto, unfolding(crate::specs::Reading::head_at))]
+#[tactic(auto, unfolding(crate::specs::computed::Reading::head_at))]
 fn head(cursor: &mut Cursor) -> Result<(), Refusal>
     ensures { Gives (λ _. cursor.new) result (head_at cursor.old) }
 {
@@ -58,7 +58,7 @@ fn head(cursor: &mut Cursor) -> Result<(), Refusal>
 }
 
 /// name "[" number "]" "=" number ";"
-#[tactic(auto, unfolding(crate::specs::Reading::store_at))]
+#[tactic(auto, unfolding(crate::specs::computed::Reading::store_at))]
 fn store(alloc: Global, names: &Names, cursor: &mut Cursor) -> Result<Store, Refusal>
     ensures { Gives (λ store. (store, cursor.new)) result (store_at names.now cursor.old) }
 {
@@ -98,7 +98,7 @@ fn stores(alloc: Global, names: &Names, cursor: &mut Cursor) -> Result<Items<Sto
 }
 
 /// "return" number ";" "}", and no more
-#[tactic(auto, unfolding(crate::specs::Reading::tail_at))]
+#[tactic(auto, unfolding(crate::specs::computed::Reading::tail_at))]
 fn tail(cursor: &mut Cursor) -> Result<u32, Refusal>
     ensures { Gives (λ n. n) result (tail_at cursor.old) }
 {
@@ -113,7 +113,7 @@ fn tail(cursor: &mut Cursor) -> Result<u32, Refusal>
 }
 
 /// What stands behind the arrays: the stores, and the returned number.
-#[tactic(auto, unfolding(crate::specs::Reading::body_at))]
+#[tactic(auto, unfolding(crate::specs::computed::Reading::body_at))]
 fn body(
     alloc: Global,
     arrays: &[Array],
@@ -131,7 +131,7 @@ fn body(
 }
 
 /// The whole file.
-#[tactic(auto, unfolding(crate::specs::Reading::program_at))]
+#[tactic(auto, unfolding(crate::specs::computed::Reading::program_at))]
 pub(crate) fn program(alloc: Global, mut cursor: Cursor) -> Result<Program, Refusal>
     ensures { Gives (λ p. p) result (program_at cursor.entry) }
 {

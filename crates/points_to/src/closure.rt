@@ -64,7 +64,7 @@ fn flows(sets: &[Vec<u32>], from: usize, to: usize) -> bool
     is_within(set_of(sets, from), set_of(sets, to))
 }
 
-#[tactic(auto, unfolding(crate::specs::RuleParts::TakesLeaves))]
+#[tactic(auto, unfolding(crate::specs::computed::RuleParts::TakesLeaves))]
 fn takes_leaves(classes: &ClassTable, sets: &[Vec<u32>], member: u32, to: usize) -> bool
     ensures { IsTrue result ↔ TakesLeaves classes.now (Flows (family_of (lists_of sets.now))) member to }
 {
@@ -78,7 +78,7 @@ fn takes_leaves(classes: &ClassTable, sets: &[Vec<u32>], member: u32, to: usize)
     true
 }
 
-#[tactic(auto, unfolding(crate::specs::RuleParts::GivesLeaves))]
+#[tactic(auto, unfolding(crate::specs::computed::RuleParts::GivesLeaves))]
 fn gives_leaves(classes: &ClassTable, sets: &[Vec<u32>], from: usize, member: u32) -> bool
     ensures { IsTrue result ↔ GivesLeaves classes.now (Flows (family_of (lists_of sets.now))) from member }
 {
@@ -92,7 +92,7 @@ fn gives_leaves(classes: &ClassTable, sets: &[Vec<u32>], from: usize, member: u3
     true
 }
 
-#[tactic(auto, unfolding(crate::specs::RuleParts::TakesParts))]
+#[tactic(auto, unfolding(crate::specs::computed::RuleParts::TakesParts))]
 fn takes_parts(classes: &ClassTable, sets: &[Vec<u32>], number: u32, member: u32, to: usize) -> bool
     ensures { IsTrue result ↔ TakesParts classes.now (Has (family_of (lists_of sets.now))) number member to }
 {
@@ -104,7 +104,7 @@ fn takes_parts(classes: &ClassTable, sets: &[Vec<u32>], number: u32, member: u32
     true
 }
 
-#[tactic(auto, unfolding(crate::specs::RuleParts::TakesLeaf))]
+#[tactic(auto, unfolding(crate::specs::computed::RuleParts::TakesLeaf))]
 fn takes_leaf(classes: &ClassTable, sets: &[Vec<u32>], target: u32, source: u32) -> bool
     ensures { IsTrue result ↔ TakesLeaf classes.now (Flows (family_of (lists_of sets.now))) target source }
 {
@@ -117,7 +117,7 @@ fn takes_leaf(classes: &ClassTable, sets: &[Vec<u32>], target: u32, source: u32)
     }
 }
 
-#[tactic(auto, unfolding(crate::specs::RuleParts::TakesLike))]
+#[tactic(auto, unfolding(crate::specs::computed::RuleParts::TakesLike))]
 fn takes_like(classes: &ClassTable, sets: &[Vec<u32>], targets: &[u32], sources: &[u32]) -> bool
     ensures { IsTrue result ↔ TakesLike classes.now (Flows (family_of (lists_of sets.now))) targets.now sources.now }
 {
@@ -211,7 +211,7 @@ fn takes_objects(
     true
 }
 
-#[tactic(auto, unfolding(crate::specs::RuleParts::GivesEntry))]
+#[tactic(auto, unfolding(crate::specs::computed::RuleParts::GivesEntry))]
 fn gives_entry(
     classes: &ClassTable,
     sets: &[Vec<u32>],
@@ -227,7 +227,7 @@ fn gives_entry(
     }
 }
 
-#[tactic(auto, unfolding(crate::specs::RuleParts::TakesResult))]
+#[tactic(auto, unfolding(crate::specs::computed::RuleParts::TakesResult))]
 fn takes_result(classes: &ClassTable, sets: &[Vec<u32>], member: u32, to: usize) -> bool
     ensures { IsTrue result ↔ TakesResult classes.now (Flows (family_of (lists_of sets.now))) member to }
 {
