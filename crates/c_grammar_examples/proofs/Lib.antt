@@ -1,11 +1,17 @@
 mod ArrayStore
+mod AtSizeOf
 mod Breaks
 mod Cast
 mod Designator
 mod FunctionOfFunctions
 mod NearestIf
+mod Passing
 mod Returned
 mod Search
+mod SizeOfName
+mod SizeOfType
+mod SizeOfTypeAndOne
 mod Structure
 mod TypedefAlone
+mod TypedefAnew
 mod Voids
