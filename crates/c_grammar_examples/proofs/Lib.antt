@@ -12,6 +12,7 @@ mod SizeOfName
 mod SizeOfType
 mod SizeOfTypeAndOne
 mod Structure
+mod Tied
 mod TypedefAlone
 mod TypedefAnew
 mod Voids

@@ -83,7 +83,7 @@ alternatives Sym.File = (symbol Sym.Externals ∷ some w.end ∷ []) ∷ []
 alternatives Sym.Externals = ([]) ∷ (symbol Sym.ExternalDeclaration ∷ symbol Sym.Externals ∷ []) ∷ (some (mark m.semicolon) ∷ symbol Sym.Externals ∷ []) ∷ []
 alternatives Sym.ExternalDeclaration = (symbol Sym.AnyDeclaration ∷ []) ∷ (change begin ∷ symbol Sym.Specifiers ∷ symbol (Sym.DeclaratorOf Mode.concrete) ∷ change declare ∷ change open_body ∷ next ∷ change enter ∷ symbol Sym.Block ∷ change leave ∷ change close_scope ∷ change finish ∷ []) ∷ []
 
-data Among (items : List Shape) : List (List Shape) → Type 0 where
+pub data Among (items : List Shape) : List (List Shape) → Type 0 where
   here : {others : List (List Shape)} → Among items (items ∷ others)
   there : {other : List Shape} {others : List (List Shape)} → Among items others → Among items (other ∷ others)
 
@@ -100,7 +100,7 @@ if_so : {items : List Shape} (b : Bool) → b ≡ true → Among items (if b the
 if_so true h = Among.here
 if_so false h = absurd cc
 
-covers : {n : Sym} {a : In n} {b : Out n} {items : List Item} → Rule n a b items → Among (shapes items) (alternatives n)
+pub covers : {n : Sym} {a : In n} {b : Out n} {items : List Item} → Rule n a b items → Among (shapes items) (alternatives n)
 covers (Rule.name _) = Among.here
 covers (Rule.number _) = (Among.there Among.here)
 covers (Rule.character _) = (Among.there (Among.there Among.here))

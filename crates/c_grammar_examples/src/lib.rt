@@ -3,8 +3,10 @@
 
 ghost use Rattle.std.specs.Prelude.{◌≡◌, List, [], ◌∷◌, ◌++◌};
 ghost use Rattle.c_tree.specs.declared.lexeme.Lexeme.{Lexeme};
-ghost use Rattle.c_grammar.specs.Files.{IsFile, IsFirstBad};
-ghost use Rattle.c_grammar.specs.Limits.{Passes};
+ghost use Rattle.c_grammar.specs.Files.{IsFile, IsFirstBad, ReachesInFile};
+ghost use Rattle.c_grammar.specs.Items.{Shape};
+ghost use Rattle.c_grammar.specs.Limits.{Passes, nesting_passed};
+ghost use Rattle.c_grammar.specs.State.{State};
 ghost use Rattle.c_grammar_examples.specs.Depths as depths;
 ghost use Rattle.c_grammar_examples.specs.Depths.{nests_past};
 ghost use Rattle.c_grammar_examples.specs.Examples as x;
@@ -25,6 +27,11 @@ pub fn lists_that_break()
     ensures typedef_name { IsFirstBad (x.typedef_name_before ++ x.typedef_name_bad ∷ x.typedef_name_behind) x.typedef_name_before x.typedef_name_bad x.typedef_name_behind }
     ensures second_value { IsFirstBad (x.body_before ++ x.second_zero ∷ x.second_zero_behind) x.body_before x.second_zero x.second_zero_behind }
     ensures early_end { IsFirstBad (x.open_body ++ x.early_end ∷ []) x.open_body x.early_end [] }
+{}
+
+/// The nesting has passed where the deepest node that was read is deeper than 256, however a file is read.
+pub fn nesting_passes_at_its_deepest_node()
+    ensures { (tokens : List Lexeme) (left : List Shape) (s : State) → ReachesInFile tokens left s → nesting_passed s ≡ nests_past 256 s }
 {}
 
 /// Where a limit of three nodes is passed with `sizeof` as the third: nowhere in `sizeof(int)`, at `+` in `sizeof(int)+1`, and at `(` in

@@ -1,7 +1,7 @@
 mod steps;
 
 use self::steps::{keyword_of, mark_of, step};
-use c_cursor::kinds::{bytes_in, name_in};
+use c_kinds::kinds::{bytes_in, name_in};
 use c_cursor::{Cursor, ReadError};
 use c_syntax::{marks, words};
 use c_tree::{Lexeme, LexemeKind};

@@ -1,6 +1,6 @@
 //! A table of declarations by the numbers of their names: of each name, whether its innermost visible declaration is a typedef.
 ghost use Rattle.std.specs.Prelude.{◌≡◌, ℕ, ◌==◌, ◌<◌, if◌then◌else◌, length, OnOk, OnErr};
-ghost use Rattle.c_cursor.specs.Log.{entry};
+ghost use Rattle.c_state.specs.Log.{entry};
 
 use std::alloc::AllocError;
 

@@ -1,7 +1,7 @@
 use Rattle.std.proofs.Common.{◌≡◌, ◌≤◌, ◌++◌, length, reverse}
 use Rattle.c_grammar.specs.State as state
-use Rattle.c_cursor.specs.Log.{scopes_of}
-use Rattle.c_cursor.proofs.scopes.latest_names.Given as goal
+use Rattle.c_state.specs.Log.{scopes_of}
+use Rattle.c_state.proofs.scopes.latest_names.Given as goal
 
 abbrev pub invariant-loop-rest : goal.invariant-loop-rest
 invariant-loop-rest l = record {

@@ -1,5 +1,5 @@
-use Rattle.c_cursor.proofs.Logs.{declared_within, latest_declared}
-use Rattle.c_cursor.proofs.scopes.Scopes.take_back.Goals as goal
+use Rattle.c_state.proofs.Logs.{declared_within, latest_declared}
+use Rattle.c_state.proofs.scopes.Scopes.take_back.Goals as goal
 
 pub put-requires : goal.put-requires
 put-requires c =

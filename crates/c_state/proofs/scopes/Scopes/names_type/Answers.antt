@@ -1,7 +1,7 @@
 use Rattle.std.proofs.Common.{Some, None, reverse, sym, ap, ◌∙◌}
-use Rattle.c_cursor.specs.Log.{entry}
-use Rattle.c_cursor.proofs.Logs.{looked_up}
-use Rattle.c_cursor.proofs.scopes.Scopes.names_type.Goals as goal
+use Rattle.c_state.specs.Log.{entry}
+use Rattle.c_state.proofs.Logs.{looked_up}
+use Rattle.c_state.proofs.scopes.Scopes.names_type.Goals as goal
 
 pub returns-in-Some : goal.returns-in-Some
 returns-in-Some c =

@@ -1,7 +1,7 @@
 use Rattle.std.proofs.Common.{◌≡◌, ◌≤◌, length}
 use Rattle.c_grammar.specs.State as state
-use Rattle.c_cursor.specs.Log.{with_names}
-use Rattle.c_cursor.proofs.scopes.Scopes.declare_all.Given as goal
+use Rattle.c_state.specs.Log.{with_names}
+use Rattle.c_state.proofs.scopes.Scopes.declare_all.Given as goal
 
 abbrev pub invariant-loop-rest : goal.invariant-loop-rest
 invariant-loop-rest l = record {

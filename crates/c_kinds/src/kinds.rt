@@ -4,7 +4,7 @@ ghost use Rattle.std.specs.Prelude.{◌≡◌, [], ◌∷◌};
 ghost use Rattle.c_grammar.specs.Marks as m;
 ghost use Rattle.c_grammar.specs.Tokens as tokens;
 ghost use Rattle.c_grammar.specs.Trees as trees;
-ghost use Rattle.c_cursor.specs.PostfixMarks.{operator_marks};
+ghost use Rattle.c_kinds.specs.PostfixMarks.{operator_marks};
 
 use c_syntax::marks;
 use c_tree::LexemeKind;

@@ -1,8 +1,8 @@
 -- How scopes are kept: the steps by which they came about, and a table of the visible declarations.
 use Rattle.std.specs.Prelude.{◌≡◌, ℕ, Bool, List, [], ◌∷◌, Option, Some, None, slice_index_or}
 use Rattle.c_grammar.specs.State.{Scope, look_up, with_name}
-use Rattle.c_cursor.specs.declared.scopes.Step.{Step}
-use Rattle.c_cursor.specs.declared.scopes.Step.TheVariants.{Opened, Declared}
+use Rattle.c_state.specs.declared.scopes.Step.{Step}
+use Rattle.c_state.specs.declared.scopes.Step.TheVariants.{Opened, Declared}
 
 -- the scopes that steps leave, the latest of which comes first
 abbrev pub scopes_of : List Step → List Scope

@@ -4,10 +4,10 @@ use Rattle.std.proofs.lemmas.Bool.{cond_both, eqb-true, eq-eqb}
 use Rattle.std.proofs.lemmas.List.{get_or_past, reverse-append, take_all, take_more}
 use Rattle.std.proofs.lemmas.Option.{slice_get_cases}
 use Rattle.c_grammar.specs.State.{Scope, look_up, with_name, names_type, or_else, innermost, outer}
-use Rattle.c_cursor.specs.declared.scopes.Declaration.{Declaration}
-use Rattle.c_cursor.specs.declared.scopes.Step.{Step}
-use Rattle.c_cursor.specs.declared.scopes.Step.TheVariants.{Opened, Declared}
-use Rattle.c_cursor.specs.Log.{scopes_of, with_names, or_outer, visible, entry, Agrees}
+use Rattle.c_state.specs.declared.scopes.Declaration.{Declaration}
+use Rattle.c_state.specs.declared.scopes.Step.{Step}
+use Rattle.c_state.specs.declared.scopes.Step.TheVariants.{Opened, Declared}
+use Rattle.c_state.specs.Log.{scopes_of, with_names, or_outer, visible, entry, Agrees}
 
 or_chosen : (t a : Bool) (p q : Option Bool) → or_outer (if t then Some a else p) q ≡ (if t then Some a else or_outer p q)
 or_chosen true a p q = refl

@@ -1,7 +1,7 @@
 use Rattle.std.proofs.Common.{ap, ◌∙◌}
-use Rattle.c_cursor.specs.Log.{with_names}
-use Rattle.c_cursor.proofs.Logs.{names_alone}
-use Rattle.c_cursor.proofs.scopes.Scopes.open_with.Goals as goal
+use Rattle.c_state.specs.Log.{with_names}
+use Rattle.c_state.proofs.Logs.{names_alone}
+use Rattle.c_state.proofs.scopes.Scopes.open_with.Goals as goal
 
 pub returns-in-Ok-clause-ok : goal.returns-in-Ok-clause-ok
 returns-in-Ok-clause-ok c =

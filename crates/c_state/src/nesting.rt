@@ -1,9 +1,8 @@
-ghost use Rattle.std.specs.Prelude.{◌≡◌, ◌∷◌, ◌+◌, ◌-◌, ◌≤◌, max, IfErr, OnOk, OnErr};
+ghost use Rattle.std.specs.Prelude.{◌≡◌, ◌∷◌, ◌+◌, ◌-◌, ◌≤◌, max, OnOk, OnErr};
 ghost use Rattle.c_grammar.specs.State as state;
 
-use crate::error::ReadError;
 use sqlite_items::Items;
-use std::alloc::Global;
+use std::alloc::{AllocError, Global};
 use std::marker::Model;
 use sv_base::limits;
 
@@ -65,14 +64,13 @@ impl Nesting {
     }
 
     /// An operator behind its operand is read, which it puts one deeper. A count that no memory could hold counts as want of memory.
-    pub fn read_operator(&mut self) -> Result<(), ReadError>
+    pub fn read_operator(&mut self) -> Result<(), AllocError>
         ensures ok { OnOk result (let read = state.reach self.old.depth self.old in self.new ≡ state.reach (state.top read.deepest + 1) read) }
         ensures full { OnErr result (usize.MAX ≤ max (state.top self.old.deepest) self.old.depth) }
         ensures stays { OnErr result (self.new ≡ self.old) }
-        ensures err { IfErr result (λ e. e ≡ ReadError.NoMemory) }
     {
         let Some(deeper) = self.top.max(self.depth).checked_add(1) else {
-            return Err(ReadError::NoMemory);
+            return Err(AllocError);
         };
         self.read();
         self.reach(deeper);
@@ -80,10 +78,9 @@ impl Nesting {
     }
 
     /// An operand begins.
-    pub fn begin_operand(&mut self) -> Result<(), ReadError>
+    pub fn begin_operand(&mut self) -> Result<(), AllocError>
         ensures ok { OnOk result (self.new ≡ record self.old { deepest = 0 ∷ self.old.deepest }) }
         ensures stays { OnErr result (self.new ≡ self.old) }
-        ensures err { IfErr result (λ e. e ≡ ReadError.NoMemory) }
     {
         self.around.push(self.top)?;
         self.top = 0;
@@ -100,13 +97,12 @@ impl Nesting {
     }
 
     /// A node opens, and with it an operand. A count that no memory could hold counts as want of memory.
-    pub fn enter(&mut self) -> Result<(), ReadError>
+    pub fn enter(&mut self) -> Result<(), AllocError>
         ensures ok { OnOk result (self.new ≡ record { depth = self.old.depth + 1; deepest = 0 ∷ self.old.deepest; passed = self.old.passed }) }
         ensures stays { OnErr result (self.new ≡ self.old) }
-        ensures err { IfErr result (λ e. e ≡ ReadError.NoMemory) }
     {
         let Some(depth) = self.depth.checked_add(1) else {
-            return Err(ReadError::NoMemory);
+            return Err(AllocError);
         };
         self.begin_operand()?;
         self.depth = depth;

@@ -1,6 +1,6 @@
 ghost use Rattle.std.specs.Prelude.{◌≡◌, [], ◌∷◌, IfOk, OnOk, OnErr, MatchOption, reverse};
 ghost use Rattle.c_grammar.specs.State as state;
-ghost use Rattle.c_cursor.specs.Log.{scopes_of, with_names};
+ghost use Rattle.c_state.specs.Log.{scopes_of, with_names};
 
 use crate::visible::{entry_of, make_room, put};
 use sqlite_items::Items;
@@ -38,7 +38,7 @@ impl Model for Scopes {
 
     ghost Value = { List state.Scope };
 
-    ghost use Rattle.c_cursor.specs.Log.{scopes_of, Agrees};
+    ghost use Rattle.c_state.specs.Log.{scopes_of, Agrees};
 
     ghost view = { λ s. scopes_of (reverse s.log) };
 

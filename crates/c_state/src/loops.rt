@@ -1,7 +1,7 @@
-ghost use Rattle.std.specs.Prelude.{◌≡◌, ◌+◌, ◌-◌, ◌≤◌, ◌||◌, nat_lt, IfErr, OnOk, OnErr};
+ghost use Rattle.std.specs.Prelude.{◌≡◌, ◌+◌, ◌-◌, ◌≤◌, ◌||◌, nat_lt, OnOk, OnErr};
 ghost use Rattle.c_grammar.specs.State as state;
 
-use crate::error::ReadError;
+use std::alloc::AllocError;
 use std::marker::Model;
 use sv_base::limits;
 
@@ -39,14 +39,13 @@ impl Loops {
     }
 
     /// The keyword of a loop is read. A count that no memory could hold counts as want of memory.
-    pub fn enter(&mut self) -> Result<(), ReadError>
+    pub fn enter(&mut self) -> Result<(), AllocError>
         ensures ok { OnOk result (self.new ≡ record { around = self.old.around + 1; passed = self.old.passed || nat_lt 12 (self.old.around + 1) }) }
-        ensures err { IfErr result (λ e. e ≡ ReadError.NoMemory) }
         ensures full { OnErr result (usize.MAX ≤ self.old.around) }
         ensures stays { OnErr result (self.new ≡ self.old) }
     {
         let Some(around) = self.around.checked_add(1) else {
-            return Err(ReadError::NoMemory);
+            return Err(AllocError);
         };
         self.around = around;
         if around > limits::LOOPS {

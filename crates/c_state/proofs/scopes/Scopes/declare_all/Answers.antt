@@ -1,7 +1,7 @@
 use Rattle.std.proofs.Common.{◌∙◌, ap, arith, length-take}
 use Rattle.c_grammar.specs.State.{outer}
-use Rattle.c_cursor.proofs.Logs.{last_name_first, outer_with}
-use Rattle.c_cursor.proofs.scopes.Scopes.declare_all.Goals as goal
+use Rattle.c_state.proofs.Logs.{last_name_first, outer_with}
+use Rattle.c_state.proofs.scopes.Scopes.declare_all.Goals as goal
 
 pub loop-rest-preserved : goal.loop-rest-preserved
 loop-rest-preserved c = record {
