@@ -1,3 +1,1 @@
-pub mod Log
 pub mod Parsers
-pub mod PostfixMarks

@@ -1,5 +1,5 @@
 -- Parsers as functions of the state and the tokens that are left.
-use Rattle.std.specs.Prelude.{◌≡◌, ◌≢◌, ℕ, suc, Bool, false, if◌then◌else◌, List, [], ◌∷◌, length, Result, Ok, Err}
+use Rattle.std.specs.Prelude.{◌≡◌, ◌≢◌, ℕ, suc, Bool, false, ◌||◌, if◌then◌else◌, List, [], ◌∷◌, length, Result, Ok, Err}
 use denote.Bor.{Bor}
 use Rattle.c_tree.specs.declared.lexeme.Lexeme.{Lexeme}
 use Rattle.c_grammar.specs.State.{State}
@@ -58,6 +58,14 @@ sees w i = sees_in w i.state i.rest
 -- does one thing or the other, by whether the terminal fits the next token
 unfoldable pub on : {A : Type 0} → Terminal → Parser A → Parser A → Parser A
 on w p q = λ i. if sees w i then p i else q i
+
+-- a token was read that passes the limit of the nesting of nodes or of loops
+abbrev pub past_limit : State → Bool
+past_limit s = s.nesting.passed || s.loops.passed
+
+-- gives up where a limit was passed
+unfoldable pub within_limits : Parser (Unit {0})
+within_limits = λ i. if past_limit i.state then Err errors.TooDeep else Ok (tt, i)
 
 -- the turns of a loop that takes a token in each but the last
 abbrev pub turns : Input → ℕ

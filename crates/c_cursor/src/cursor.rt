@@ -17,11 +17,8 @@ mod statements;
 mod tokens;
 
 use crate::error::ReadError;
-use crate::frames::Frames;
-use crate::kinds::{is_name, name_in};
-use crate::loops::Loops;
-use crate::nesting::Nesting;
-use crate::scopes::Scopes;
+use c_kinds::kinds::{is_name, name_in};
+use c_state::{Frames, Loops, Nesting, Scopes};
 use c_tree::Lexeme;
 use std::alloc::Global;
 use std::marker::Model;

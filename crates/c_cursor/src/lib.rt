@@ -3,15 +3,6 @@
 
 mod cursor;
 mod error;
-mod frame;
-mod frames;
-pub mod keywords;
-pub mod kinds;
-mod loops;
-mod nesting;
-pub mod operators;
-mod scopes;
-mod visible;
 
 pub use cursor::Cursor;
 pub use error::ReadError;

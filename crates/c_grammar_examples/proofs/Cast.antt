@@ -337,6 +337,7 @@ derived =
     Derives.acted (
     Derives.by (Rule.nested Mode.concrete v14 [] u11 u13) (
     Derives.token {s = s10} refl (
+    Derives.acted (
     Derives.by (Rule.plain_declarator Mode.concrete (t.direct_name u12 []) u12) (
     Derives.seen (
     Derives.acted (
@@ -428,4 +429,4 @@ derived =
     Derives.acted (
     Derives.by (Rule.last_external v27) (
     Derives.token {s = s21} refl (
-    Derives.done)))))))))))))))))))))))))))))))))))))))))))))))))))))))))))))))))))))))))))))))))))))))))))))))))))))))))))))))))))))))))))))))))))))))))))))))))))))))))))))))))))))))
+    Derives.done))))))))))))))))))))))))))))))))))))))))))))))))))))))))))))))))))))))))))))))))))))))))))))))))))))))))))))))))))))))))))))))))))))))))))))))))))))))))))))))))))))))))

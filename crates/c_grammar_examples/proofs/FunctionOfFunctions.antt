@@ -189,9 +189,11 @@ derived =
     Derives.acted (
     Derives.by (Rule.nested Mode.concrete v14 v12 u1 u8) (
     Derives.token {s = s1} refl (
+    Derives.acted (
     Derives.by (Rule.pointed_declarator Mode.concrete [] ([] ∷ []) (t.direct_name u3 v7) u2) (
     Derives.acted (
     Derives.token {s = s2} refl (
+    Derives.acted (
     Derives.by (Rule.last_qualifier []) (
     Derives.by (Rule.last_pointer ([] ∷ [])) (
     Derives.by (Rule.named Mode.concrete v7 u3 refl) (
@@ -254,4 +256,4 @@ derived =
     Derives.acted (
     Derives.by (Rule.last_external v19) (
     Derives.token {s = s12} refl (
-    Derives.done)))))))))))))))))))))))))))))))))))))))))))))))))))))))))))))))))))))))))))))))))))
+    Derives.done)))))))))))))))))))))))))))))))))))))))))))))))))))))))))))))))))))))))))))))))))))))

@@ -1,15 +1,15 @@
 -- A search that computes: whether a list of shapes certainly does not begin with tokens. What the productions of a symbol have on the right
 -- is listed by a script, and `covers` shows that nothing is left out.
-use Rattle.std.proofs.Common.{◌≡◌, ℕ, zero, suc, Bool, true, false, if◌then◌else◌, List, [], ◌∷◌, ◌++◌}
+use Rattle.std.proofs.Common.{◌≡◌, ℕ, zero, suc, Bool, true, false, ◌&&◌, if◌then◌else◌, List, [], ◌∷◌, ◌++◌}
 use Rattle.std.specs.List.{list_all}
 use Rattle.std.proofs.lemmas.Bool.{and_parts}
 use Rattle.c_tree.specs.declared.lexeme.Lexeme.{Lexeme}
-use Rattle.c_grammar.specs.Derives.{Begins}
+use Rattle.c_grammar.specs.Derives.{Begins, Reaches}
 use Rattle.c_grammar.specs.Items.{Mode, Sym, In, Out, Item, Shape, some, next, change, sym as symbol, shapes}
 use Rattle.c_grammar.specs.Marks as m
 use Rattle.c_grammar.specs.Modes.{may_have_name, name_of_mode, may_lack_name, behind_pointer, in_parentheses}
 use Rattle.c_grammar.specs.Productions.{Rule}
-use Rattle.c_grammar.specs.State.{State, begin, finish, declare, open_scope, close_scope, open_body, close_parameters, indirect, is_unary, is_no_unary, leave_dangling, begin_operand, end_operand, enter, leave, leave_loop}
+use Rattle.c_grammar.specs.State.{State, begin, end_specifiers, finish, declare, open_scope, close_scope, open_body, close_parameters, indirect, is_unary, is_no_unary, leave_dangling, begin_operand, end_operand, enter, leave, leave_loop}
 use Rattle.c_grammar.specs.Terminals as w
 use Rattle.c_grammar.specs.Terminals.{Terminal, mark, word, operator, closing}
 use Rattle.c_grammar.specs.Words as d
@@ -36,7 +36,7 @@ alternatives Sym.Expression = (change begin_operand ∷ symbol Sym.Assignment �
 alternatives Sym.MoreExpressions = ([]) ∷ (some (operator (mark m.comma)) ∷ change enter ∷ symbol Sym.Assignment ∷ change leave ∷ symbol Sym.MoreExpressions ∷ []) ∷ []
 alternatives Sym.AnyDeclaration = (change begin ∷ symbol Sym.Specifiers ∷ symbol Sym.InitDeclarators ∷ some (mark m.semicolon) ∷ change finish ∷ []) ∷ []
 alternatives Sym.InitDeclarators = ([]) ∷ (symbol Sym.DeclaratorWithInitial ∷ symbol Sym.MoreInitDeclarators ∷ []) ∷ []
-alternatives Sym.MoreInitDeclarators = ([]) ∷ (some (mark m.comma) ∷ symbol Sym.DeclaratorWithInitial ∷ symbol Sym.MoreInitDeclarators ∷ []) ∷ []
+alternatives Sym.MoreInitDeclarators = ([]) ∷ (some (mark m.comma) ∷ change end_specifiers ∷ symbol Sym.DeclaratorWithInitial ∷ symbol Sym.MoreInitDeclarators ∷ []) ∷ []
 alternatives Sym.DeclaratorWithInitial = (symbol (Sym.DeclaratorOf Mode.concrete) ∷ change declare ∷ symbol Sym.Initial ∷ []) ∷ []
 alternatives Sym.Initial = ([]) ∷ (some (mark m.equal) ∷ symbol Sym.InitialValue ∷ []) ∷ []
 alternatives Sym.Specifiers = (symbol Sym.Specifier ∷ symbol Sym.MoreSpecifiers ∷ []) ∷ []
@@ -47,15 +47,15 @@ alternatives Sym.Tag = ([]) ∷ (some w.any_name ∷ []) ∷ []
 alternatives Sym.Members = (symbol Sym.Member ∷ symbol Sym.MoreMembers ∷ []) ∷ []
 alternatives Sym.MoreMembers = ([]) ∷ (symbol Sym.Member ∷ symbol Sym.MoreMembers ∷ []) ∷ []
 alternatives Sym.Member = (change begin ∷ symbol Sym.Specifiers ∷ symbol (Sym.DeclaratorOf Mode.concrete) ∷ symbol Sym.MoreDeclarators ∷ some (mark m.semicolon) ∷ change finish ∷ []) ∷ []
-alternatives Sym.MoreDeclarators = ([]) ∷ (some (mark m.comma) ∷ symbol (Sym.DeclaratorOf Mode.concrete) ∷ symbol Sym.MoreDeclarators ∷ []) ∷ []
+alternatives Sym.MoreDeclarators = ([]) ∷ (some (mark m.comma) ∷ change end_specifiers ∷ symbol (Sym.DeclaratorOf Mode.concrete) ∷ symbol Sym.MoreDeclarators ∷ []) ∷ []
 alternatives Sym.Enumerators = (symbol Sym.Enumerator ∷ symbol Sym.MoreEnumerators ∷ []) ∷ []
 alternatives Sym.MoreEnumerators = ([]) ∷ (some (mark m.comma) ∷ []) ∷ (some (mark m.comma) ∷ symbol Sym.Enumerator ∷ symbol Sym.MoreEnumerators ∷ []) ∷ []
 alternatives Sym.Enumerator = (change begin ∷ some w.enumerator_name ∷ symbol Sym.EnumeratorValue ∷ change declare ∷ change finish ∷ []) ∷ []
 alternatives Sym.EnumeratorValue = ([]) ∷ (some (mark m.equal) ∷ symbol Sym.Constant ∷ []) ∷ []
-alternatives (Sym.DeclaratorOf k) = ((next ∷ change enter ∷ symbol (Sym.DirectOf k) ∷ change leave ∷ []) ∷ (change enter ∷ some (mark m.asterisk) ∷ symbol Sym.Qualifiers ∷ symbol Sym.Pointers ∷ symbol (Sym.DirectOf (behind_pointer k)) ∷ change indirect ∷ change leave ∷ []) ∷ []) ++ (if may_lack_name k then (change enter ∷ some (mark m.asterisk) ∷ symbol Sym.Qualifiers ∷ symbol Sym.Pointers ∷ change leave ∷ []) ∷ [] else [])
-alternatives Sym.Pointers = ([]) ∷ (some (mark m.asterisk) ∷ symbol Sym.Qualifiers ∷ symbol Sym.Pointers ∷ []) ∷ []
+alternatives (Sym.DeclaratorOf k) = ((next ∷ change enter ∷ symbol (Sym.DirectOf k) ∷ change leave ∷ []) ∷ (change enter ∷ some (mark m.asterisk) ∷ change end_specifiers ∷ symbol Sym.Qualifiers ∷ symbol Sym.Pointers ∷ symbol (Sym.DirectOf (behind_pointer k)) ∷ change indirect ∷ change leave ∷ []) ∷ []) ++ (if may_lack_name k then (change enter ∷ some (mark m.asterisk) ∷ change end_specifiers ∷ symbol Sym.Qualifiers ∷ symbol Sym.Pointers ∷ change leave ∷ []) ∷ [] else [])
+alternatives Sym.Pointers = ([]) ∷ (some (mark m.asterisk) ∷ change end_specifiers ∷ symbol Sym.Qualifiers ∷ symbol Sym.Pointers ∷ []) ∷ []
 alternatives Sym.Qualifiers = ([]) ∷ (some w.qualifier ∷ symbol Sym.Qualifiers ∷ []) ∷ []
-alternatives (Sym.DirectOf k) = ((some (mark m.left_parenthesis) ∷ symbol (Sym.DeclaratorOf (in_parentheses k)) ∷ some (mark m.right_parenthesis) ∷ symbol Sym.Parts ∷ []) ∷ []) ++ (if may_have_name k then (some (name_of_mode k) ∷ symbol Sym.Parts ∷ []) ∷ [] else []) ++ (if may_lack_name k then (symbol Sym.Part ∷ symbol Sym.Parts ∷ []) ∷ [] else [])
+alternatives (Sym.DirectOf k) = ((some (mark m.left_parenthesis) ∷ change end_specifiers ∷ symbol (Sym.DeclaratorOf (in_parentheses k)) ∷ some (mark m.right_parenthesis) ∷ symbol Sym.Parts ∷ []) ∷ []) ++ (if may_have_name k then (some (name_of_mode k) ∷ symbol Sym.Parts ∷ []) ∷ [] else []) ++ (if may_lack_name k then (symbol Sym.Part ∷ symbol Sym.Parts ∷ []) ∷ [] else [])
 alternatives Sym.Parts = ([]) ∷ (symbol Sym.Part ∷ symbol Sym.Parts ∷ []) ∷ []
 alternatives Sym.Part = (some (mark m.left_bracket) ∷ change indirect ∷ symbol Sym.Size ∷ some (mark m.right_bracket) ∷ []) ∷ (some (mark m.left_parenthesis) ∷ change open_scope ∷ symbol Sym.Parameters ∷ some (mark m.right_parenthesis) ∷ change close_parameters ∷ []) ∷ []
 alternatives Sym.Size = ([]) ∷ (symbol Sym.Constant ∷ []) ∷ []
@@ -83,7 +83,7 @@ alternatives Sym.File = (symbol Sym.Externals ∷ some w.end ∷ []) ∷ []
 alternatives Sym.Externals = ([]) ∷ (symbol Sym.ExternalDeclaration ∷ symbol Sym.Externals ∷ []) ∷ (some (mark m.semicolon) ∷ symbol Sym.Externals ∷ []) ∷ []
 alternatives Sym.ExternalDeclaration = (symbol Sym.AnyDeclaration ∷ []) ∷ (change begin ∷ symbol Sym.Specifiers ∷ symbol (Sym.DeclaratorOf Mode.concrete) ∷ change declare ∷ change open_body ∷ next ∷ change enter ∷ symbol Sym.Block ∷ change leave ∷ change close_scope ∷ change finish ∷ []) ∷ []
 
-data Among (items : List Shape) : List (List Shape) → Type 0 where
+pub data Among (items : List Shape) : List (List Shape) → Type 0 where
   here : {others : List (List Shape)} → Among items (items ∷ others)
   there : {other : List Shape} {others : List (List Shape)} → Among items others → Among items (other ∷ others)
 
@@ -100,7 +100,7 @@ if_so : {items : List Shape} (b : Bool) → b ≡ true → Among items (if b the
 if_so true h = Among.here
 if_so false h = absurd cc
 
-covers : {n : Sym} {a : In n} {b : Out n} {items : List Item} → Rule n a b items → Among (shapes items) (alternatives n)
+pub covers : {n : Sym} {a : In n} {b : Out n} {items : List Item} → Rule n a b items → Among (shapes items) (alternatives n)
 covers (Rule.name _) = Among.here
 covers (Rule.number _) = (Among.there Among.here)
 covers (Rule.character _) = (Among.there (Among.there Among.here))
@@ -277,3 +277,46 @@ refuted (suc n) {ts = t ∷ ts} h (Begins.acted b) = refuted n h b
 refuted (suc n) {ts = []} h (Begins.by r b) = absurd cc
 refuted (suc n) {ts = t ∷ ts} {s = s} h (Begins.by {items} {more} r b) =
     refuted n (all_among (λ items. no n (t ∷ ts) (items ++ more) s) h (covers r)) b
+
+-- ---- every run
+-- in so many steps the search finds that each run over the tokens leaves what is wanted
+unfoldable pub every : ℕ → (List Shape → State → Bool) → List Lexeme → List Shape → State → Bool
+every zero q ts stack s = false
+every (suc n) q [] [] s = q [] s
+every (suc n) q [] (some w ∷ more) s = q (some w ∷ more) s
+every (suc n) q [] (next ∷ more) s = q (next ∷ more) s && every n q [] more s
+every (suc n) q [] (change f ∷ more) s = q (change f ∷ more) s && every n q [] more (f s)
+every (suc n) q [] (symbol x ∷ more) s = q (symbol x ∷ more) s && list_all (λ items. every n q [] (items ++ more) s) (alternatives x)
+every (suc n) q (t ∷ ts) [] s = true
+every (suc n) q (t ∷ ts) (some w ∷ more) s = if w.fits s t then every n q ts more (w.after s t) else true
+every (suc n) q (t ∷ ts) (next ∷ more) s = every n q (t ∷ ts) more s
+every (suc n) q (t ∷ ts) (change f ∷ more) s = every n q (t ∷ ts) more (f s)
+every (suc n) q (t ∷ ts) (symbol x ∷ more) s = list_all (λ items. every n q (t ∷ ts) (items ++ more) s) (alternatives x)
+
+here_too : (n : ℕ) (q : List Shape → State → Bool) (stack : List Shape) (s : State) → every n q [] stack s ≡ true → q stack s ≡ true
+unfolding every
+here_too zero q stack s h = absurd cc
+here_too (suc n) q [] s h = h
+here_too (suc n) q (some w ∷ more) s h = h
+here_too (suc n) q (next ∷ more) s h = (and_parts (q (next ∷ more) s) (every n q [] more s) h).0
+here_too (suc n) q (change f ∷ more) s h = (and_parts (q (change f ∷ more) s) (every n q [] more (f s)) h).0
+here_too (suc n) q (symbol x ∷ more) s h =
+    (and_parts (q (symbol x ∷ more) s) (list_all (λ items. every n q [] (items ++ more) s) (alternatives x)) h).0
+
+pub holds_at : (n : ℕ) (q : List Shape → State → Bool) {ts : List Lexeme} {stack left : List Shape} {s end : State} → every n q ts stack s ≡ true
+    → Reaches stack s ts left end → q left end ≡ true
+unfolding every
+holds_at zero q h r = absurd cc
+holds_at (suc n) q {stack = stack} {s = s} h Reaches.here = here_too (suc n) q stack s h
+holds_at (suc n) q h (Reaches.token {w} {more} {left} {s} {end} {t} {ts} fits r) =
+    holds_at n q (then_so (w.fits s t) (every n q ts more (w.after s t)) fits h) r
+holds_at (suc n) q {ts = []} {s = s} h (Reaches.seen {more} r) = holds_at n q (and_parts (q (next ∷ more) s) (every n q [] more s) h).1 r
+holds_at (suc n) q {ts = t ∷ ts} h (Reaches.seen r) = holds_at n q h r
+holds_at (suc n) q {ts = []} {s = s} h (Reaches.acted {f} {more} r) =
+    holds_at n q (and_parts (q (change f ∷ more) s) (every n q [] more (f s)) h).1 r
+holds_at (suc n) q {ts = t ∷ ts} h (Reaches.acted r) = holds_at n q h r
+holds_at (suc n) q {ts = []} {s = s} h (Reaches.by {n = x} {items = items} {more = more} r b) =
+    holds_at n q (all_among (λ items. every n q [] (items ++ more) s)
+    (and_parts (q (symbol x ∷ more) s) (list_all (λ items. every n q [] (items ++ more) s) (alternatives x)) h).1 (covers r)) b
+holds_at (suc n) q {ts = t ∷ ts} {s = s} h (Reaches.by {items = items} {more = more} r b) =
+    holds_at n q (all_among (λ items. every n q (t ∷ ts) (items ++ more) s) h (covers r)) b

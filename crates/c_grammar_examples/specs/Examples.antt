@@ -122,6 +122,26 @@ designator_tree =
     []))) ∷ [])) ∷
     []
 
+-- Lists without a type word that have ended before a typedef name: the name is declared anew.
+-- typedef int T, U, V; const *T; static x, U; static (V);
+abbrev pub typedefs_anew : List Lexeme
+typedefs_anew = in_a_row 0 (
+    k.Word d.typedef_word ∷ k.Word d.int_word ∷ k.Name 0 ∷ k.Mark m.comma ∷ k.Name 1 ∷ k.Mark m.comma ∷ k.Name 2 ∷ k.Mark m.semicolon ∷
+    k.Word d.const_word ∷ k.Mark m.asterisk ∷ k.Name 0 ∷ k.Mark m.semicolon ∷
+    k.Word d.static_word ∷ k.Name 3 ∷ k.Mark m.comma ∷ k.Name 1 ∷ k.Mark m.semicolon ∷
+    k.Word d.static_word ∷ k.Mark m.left_parenthesis ∷ k.Name 2 ∷ k.Mark m.right_parenthesis ∷ k.Mark m.semicolon ∷ k.End ∷ [])
+
+abbrev pub typedefs_anew_tree : List External
+typedefs_anew_tree =
+    xd.Declaration (declaration (plain 0 d.typedef_word ∷ plain 1 d.int_word ∷ [])
+    (with_initial (named 2 0 []) None ∷ with_initial (named 4 1 []) None ∷ with_initial (named 6 2 []) None ∷ [])) ∷
+    xd.Declaration (declaration (plain 8 d.const_word ∷ []) (with_initial (declarator 10 ([] ∷ []) (core.Name 0) []) None ∷ [])) ∷
+    xd.Declaration (declaration (plain 12 d.static_word ∷ [])
+    (with_initial (named 13 3 []) None ∷ with_initial (named 15 1 []) None ∷ [])) ∷
+    xd.Declaration (declaration (plain 17 d.static_word ∷ [])
+    (with_initial (declarator 19 [] (core.Nested (named 19 2 [])) []) None ∷ [])) ∷
+    []
+
 -- A list without a type word whose first name is a typedef name: the name is the type word, so `[` is the first bad token.
 -- typedef int T; static T[3];
 abbrev pub typedef_name_before : List Lexeme

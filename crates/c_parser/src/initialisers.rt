@@ -2,8 +2,8 @@
 ghost use Rattle.c_parser.specs.Callable.{Reads};
 
 use crate::inside::{MOST_CALLS, constant, expression};
-use c_cursor::kinds::name_in;
 use c_cursor::{Cursor, ReadError};
+use c_kinds::kinds::name_in;
 use c_parser_expressions::Form;
 use c_syntax::marks;
 use c_tree::{HeldDesignators, HeldEntries, HeldInitialiser};

@@ -4,8 +4,8 @@ ghost use Rattle.c_parser_declarators.specs.Callable.{Reads, ReadsModes};
 use crate::declared::Declared;
 use crate::mode::Mode;
 use crate::reader::Declarators;
-use c_cursor::kinds::name_in;
 use c_cursor::{Cursor, ReadError};
+use c_kinds::kinds::name_in;
 use c_syntax::marks;
 use c_tree::{
     HeldDeclarator, HeldDeclarators, HeldEnumerators, HeldExpr, HeldMembers, HeldSpecifiers,

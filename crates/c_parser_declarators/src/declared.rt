@@ -10,6 +10,7 @@ pub struct Spot {
 }
 
 impl Spot {
+    // Where this token stands.
     pub(crate) fn of(token: &Lexeme) -> Spot {
         Spot {
             place: token.place,
@@ -18,7 +19,7 @@ impl Spot {
     }
 }
 
-/// A declarator, and where the name in it stands.
+/// A declarator, and where the name in it stands, if it has one.
 #[derive(Drop)]
 pub struct Declared {
     pub tree: HeldDeclarator,

@@ -2,7 +2,7 @@
 ghost use Rattle.std.specs.Prelude.{◌≡◌, IfOk};
 ghost use Rattle.c_grammar.specs.Trees as trees;
 
-use c_cursor::operators::assigned_by;
+use c_kinds::operators::assigned_by;
 use c_syntax::marks;
 use c_tree::{HeldExpr, Lexeme, LexemeKind};
 use c_values::{Cmp, Op, UnOp};

@@ -3,8 +3,8 @@ ghost use Rattle.c_parser_expressions.specs.Callable.{ReadsForms};
 
 use crate::form::Form;
 use crate::reader::Expressions;
-use c_cursor::kinds::{is_mark, name_in};
 use c_cursor::{Cursor, ReadError};
+use c_kinds::kinds::{is_mark, name_in};
 use c_postfix::{character, name, number, text};
 use c_syntax::marks;
 use c_tree::{HeldArguments, HeldExpr, HeldTypeName};

@@ -5,11 +5,12 @@ use c_cursor::{Cursor, ReadError};
 use c_tree::{HeldExpr, HeldTypeName};
 use std::alloc::Global;
 
-/// Reads expressions. A form is read from its first token, and no more than it.
+/// Reads expressions. A form is read from its first token, and no more than it. The answer is `Wrong` at the first token with which the form
+/// does not go on, `TooDeep` where a limit of nesting was passed or no depth is left, and `NoMemory`.
 #[derive(Clone, Copy)]
 pub struct Expressions<F, G> {
     pub alloc: Global,
-    /// How deep what stands inside may still nest.
+    /// How many readers may still call one another inside.
     pub depth: usize,
     /// Reads an expression of a form inside.
     pub inside: F,

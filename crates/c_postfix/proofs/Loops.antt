@@ -7,7 +7,7 @@ use Rattle.c_grammar.specs.Terminals as w
 use Rattle.c_grammar.specs.Tokens.{bytes_of}
 use Rattle.c_cursor.specs.declared.error.ReadError.{ReadError}
 use Rattle.c_cursor.specs.declared.error.ReadError.TheVariants as errors
-use Rattle.c_cursor.specs.PostfixMarks.{begins_operator}
+use Rattle.c_kinds.specs.PostfixMarks.{begins_operator}
 use Rattle.c_cursor.specs.Parsers.{Input, Parser, take, on, sees, turns}
 use Rattle.c_reads.specs.Postfix.{texts_from, one_argument, some_arguments, arguments_from, operator, operators_from}
 

@@ -36,6 +36,7 @@ impl<
     F: Fn(Global, usize, &mut Cursor<'_>) -> Result<HeldExpr, ReadError>,
     G: Fn(Global, usize, &mut Cursor<'_>) -> Result<HeldExpr, ReadError>,
 > Postfix<S, F, G> {
+    // An expression that stands inside.
     pub(crate) fn inside(&self, cursor: &mut Cursor<'_>) -> Result<HeldExpr, ReadError>
         requires { Runs S.inside self.now.depth (F.pre self.now.inside) (F.post self.now.inside) }
         ensures { Reads (S.inside self.now.depth cursor.old) result cursor.new }
@@ -43,6 +44,7 @@ impl<
         (self.inside)(self.alloc, self.depth, cursor)
     }
 
+    // An argument of a call.
     pub(crate) fn argument(&self, cursor: &mut Cursor<'_>) -> Result<HeldExpr, ReadError>
         requires { Runs S.argument self.now.depth (G.pre self.now.argument) (G.post self.now.argument) }
         ensures { Reads (S.argument self.now.depth cursor.old) result cursor.new }

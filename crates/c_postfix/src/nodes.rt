@@ -5,7 +5,7 @@ ghost use Rattle.c_grammar.specs.Tokens.{name_of};
 ghost use Rattle.c_grammar.specs.Trees.{expression, constant_in, goes_up};
 ghost use Rattle.c_tree.specs.declared.expression.ExprKind.TheVariants as e;
 
-use c_cursor::kinds::{is_mark, name_in};
+use c_kinds::kinds::{is_mark, name_in};
 use c_syntax::marks;
 use c_tree::{HeldArguments, HeldExpr, Lexeme, LexemeKind};
 use sqlite_items::Items;

@@ -2,7 +2,7 @@ ghost use Rattle.std.specs.Prelude.{◌≡◌, ℕ, [], ◌∷◌, IfOk, OnOk, I
 ghost use Rattle.c_grammar.specs.Items.{Sym, nt, sym as symbol};
 ghost use Rattle.c_grammar.specs.Marks as m;
 ghost use Rattle.c_postfix.specs.Runs.{Runs};
-ghost use Rattle.c_reads.specs.Exact.{Stops, Read, Refused, Makes};
+ghost use Rattle.c_reads.specs.Exact.{Stops, Read, Refused, Past, Makes};
 ghost use Rattle.c_cursor.specs.Parsers.{Reads};
 ghost use Rattle.c_reads.specs.Postfix as spec;
 ghost use Rattle.c_reads.specs.Postfix.{Inside, postfix_goes_on};
@@ -139,11 +139,11 @@ impl<
     }
 
     // One postfix operator behind its operand.
-    #[tactic(auto, unfolding(c_reads::specs::Postfix::operator, c_cursor::specs::Parsers::on))]
-    fn operator(&self, left: HeldExpr, cursor: &mut Cursor<'_>) -> Result<HeldExpr, ReadError>
+    #[tactic(auto, unfolding(c_reads::specs::Postfix::some_operator, c_cursor::specs::Parsers::on))]
+    fn some_operator(&self, left: HeldExpr, cursor: &mut Cursor<'_>) -> Result<HeldExpr, ReadError>
         requires inside { Runs S.inside self.now.depth (F.pre self.now.inside) (F.post self.now.inside) }
         requires argument { Runs S.argument self.now.depth (G.pre self.now.argument) (G.post self.now.argument) }
-        ensures { Reads (spec.operator (S.inside self.now.depth) (S.argument self.now.depth) left cursor.old) result cursor.new }
+        ensures { Reads (spec.some_operator (S.inside self.now.depth) (S.argument self.now.depth) left cursor.old) result cursor.new }
     {
         if cursor.sees_mark(marks::LEFT_BRACKET) {
             return self.subscript(left, cursor);
@@ -160,7 +160,18 @@ impl<
         self.bump(left, cursor)
     }
 
-    // All the postfix operators behind an operand.
+    // The same where no limit is passed.
+    #[tactic(auto, unfolding(c_reads::specs::Postfix::operator))]
+    fn operator(&self, left: HeldExpr, cursor: &mut Cursor<'_>) -> Result<HeldExpr, ReadError>
+        requires inside { Runs S.inside self.now.depth (F.pre self.now.inside) (F.post self.now.inside) }
+        requires argument { Runs S.argument self.now.depth (G.pre self.now.argument) (G.post self.now.argument) }
+        ensures { Reads (spec.operator (S.inside self.now.depth) (S.argument self.now.depth) left cursor.old) result cursor.new }
+    {
+        cursor.stop_past_limit()?;
+        self.some_operator(left, cursor)
+    }
+
+    // All the postfix operators behind an operand, up to the first that passes a limit.
     fn operators(&self, mut left: HeldExpr, cursor: &mut Cursor<'_>) -> Result<HeldExpr, ReadError>
         requires inside { Runs S.inside self.now.depth (F.pre self.now.inside) (F.post self.now.inside) }
         requires argument { Runs S.argument self.now.depth (G.pre self.now.argument) (G.post self.now.argument) }
@@ -187,7 +198,7 @@ impl<
     }
 
     /// A postfix expression (6.5.2), and no more than it. Where the functions inside read exactly what stands there, so does
-    /// this one: a refusal names the first token with which nothing goes on.
+    /// this one: a refusal names the first token with which nothing goes on, and it gives up only where a limit is passed.
     pub fn postfix(&self, cursor: &mut Cursor<'_>) -> Result<HeldExpr, ReadError>
         requires inside { Runs S.inside self.now.depth (F.pre self.now.inside) (F.post self.now.inside) }
         requires argument { Runs S.argument self.now.depth (G.pre self.now.argument) (G.post self.now.argument) }
@@ -195,6 +206,7 @@ impl<
         ensures found { Inside (S.inside self.now.depth) (S.argument self.now.depth) → IfOk result (λ tree. Makes (nt Sym.Postfix tt tree ∷ []) cursor.old cursor.new) }
         ensures exactly { Inside (S.inside self.now.depth) (S.argument self.now.depth) → OnOk result (Read (Stops postfix_goes_on) (symbol Sym.Postfix ∷ []) cursor.old cursor.new) }
         ensures wrong { Inside (S.inside self.now.depth) (S.argument self.now.depth) → (left : ℕ) → IsErrOf result (ReadError.Wrong left) → Refused (Stops postfix_goes_on) (symbol Sym.Postfix ∷ []) cursor.old left }
+        ensures too_deep { Inside (S.inside self.now.depth) (S.argument self.now.depth) → IsErrOf result ReadError.TooDeep → Past (symbol Sym.Postfix ∷ []) cursor.old }
         ensures turns { Inside (S.inside self.now.depth) (S.argument self.now.depth) → IsErrOf result ReadError.Spent → ⊥ }
     {
         postfix_is_exact();

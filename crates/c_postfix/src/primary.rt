@@ -7,8 +7,8 @@ ghost use Rattle.c_reads.specs.Postfix as spec;
 
 use crate::inner::{Inner, Postfix};
 use crate::nodes;
-use c_cursor::kinds::bytes_in;
 use c_cursor::{Cursor, ReadError};
+use c_kinds::kinds::bytes_in;
 use c_syntax::marks;
 use c_tree::{HeldExpr, Lexeme};
 use sqlite_items::Items;

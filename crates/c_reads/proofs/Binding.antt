@@ -1,10 +1,23 @@
 -- One parser after another.
 use Rattle.std.proofs.Common.{◌≡◌, ℕ, List, [], ◌∷◌, ◌++◌, Ok, Err, refl, sym, ap, ◌∙◌, subst, append_assoc}
 use Rattle.c_tree.specs.declared.lexeme.Lexeme.{Lexeme}
-use Rattle.c_grammar.specs.Derives.{Begins}
+use Rattle.c_grammar.specs.Derives.{Begins, Reaches}
+use Rattle.c_grammar.specs.Items.{Shape, shapes}
+use Rattle.c_grammar.specs.State.{State}
+use Rattle.c_grammar.proofs.Fronts.{joined}
 use Rattle.c_cursor.specs.declared.error.ReadError.TheVariants as errors
-use Rattle.c_reads.specs.Exact.{Stack, Read, Refused, Ends, Does}
+use Rattle.c_reads.specs.Exact.{Stack, Read, Refused, Past, Ends, Does}
 use Rattle.c_cursor.specs.Parsers.{Input, Outcome, Parser, and_then, ◌>>=◌, pure}
+
+-- ---- runs
+-- a run leaves alone what stands behind
+over : {xs left : Stack} {s end : State} {ts : List Lexeme} (ys : Stack) → Reaches xs s ts left end → Reaches (xs ++ ys) s ts (left ++ ys) end
+over ys Reaches.here = Reaches.here
+over ys (Reaches.token h r) = Reaches.token h (over ys r)
+over ys (Reaches.seen r) = Reaches.seen (over ys r)
+over ys (Reaches.acted r) = Reaches.acted (over ys r)
+over ys (Reaches.by {items = items} {more = more} {left = left} {s = s} {end = end} {ts = ts} q r) =
+    Reaches.by q (subst (λ (ss : Stack). Reaches ss s ts (left ++ ys) end) (append_assoc (shapes items) more ys) (over ys r))
 
 -- what holds of the stack behind also holds of it with these in front
 pub record Follows (H1 H2 : Stack → Type 0) (ys : Stack) : Type 0 where
@@ -23,6 +36,7 @@ module _ {H1 H2 : Stack → Type 0} {ys : Stack} (follows : Follows H1 H2 ys) wh
   then_read {xs} {start} p q = record {
     used = p.used ++ q.used;
     cut = p.cut ∙ ap (λ r. p.used ++ r) q.cut ∙ sym (append_assoc p.used q.used _);
+    run = joined (over ys p.run) q.run;
     goes = λ behind more h. subst (λ ss. Begins ss start.state ((p.used ++ q.used) ++ more)) (sym (append_assoc xs ys behind))
         (subst (λ us. Begins (xs ++ (ys ++ behind)) start.state us) (sym (append_assoc p.used q.used more)) (p.goes (ys ++ behind) (q.used ++ more) (q.goes behind more h)));
     only = λ behind front back e h began. q.only behind front back e h (past p q.used front back (q.cut ∙ ap (λ r. q.used ++ r) e ∙ sym (append_assoc q.used front back)) behind h began);
@@ -48,10 +62,24 @@ module _ {H1 H2 : Stack → Type 0} {ys : Stack} (follows : Follows H1 H2 ys) wh
     none = λ behind t ts e h began. p.none (ys ++ behind) t ts e (follows.step behind h) (subst (λ ss. Begins ss start.state (p.used ++ t ∷ [])) (append_assoc xs ys behind) began);
   }
 
+  then_past : {xs : Stack} {start mid : Input} → Read H1 xs start mid → Past ys mid → Past (xs ++ ys) start
+  then_past p q = record {
+    used = p.used ++ q.used;
+    rest = q.rest;
+    cut = p.cut ∙ ap (λ r. p.used ++ r) q.cut ∙ sym (append_assoc p.used q.used _);
+    left = q.left;
+    end = q.end;
+    run = joined (over ys p.run) q.run;
+    passed = q.passed;
+  }
+
+  past_then : {xs : Stack} {start : Input} → Past xs start → Past (xs ++ ys) start
+  past_then p = record { used = p.used; rest = p.rest; cut = p.cut; left = p.left ++ ys; end = p.end; run = over ys p.run; passed = p.passed }
+
   after_read : (B : Type 0) (Q : B → Input → Type 0) {xs : Stack} {start mid : Input} → Read H1 xs start mid → (o : Outcome B) → Ends H2 ys Q mid o → Ends H2 (xs ++ ys) Q start o
   after_read B Q read (Ok p) q = (then_read read q.0, q.1)
   after_read B Q read (Err (errors.Wrong left)) q = then_refused read q
-  after_read B Q read (Err errors.TooDeep) q = tt
+  after_read B Q read (Err errors.TooDeep) q = then_past read q
   after_read B Q read (Err errors.Spent) q = absurd q
   after_read B Q read (Err errors.NoMemory) q = absurd q
 
@@ -59,7 +87,7 @@ module _ {H1 H2 : Stack → Type 0} {ys : Stack} (follows : Follows H1 H2 ys) wh
       → (f : A → Parser B) → ((a : A) (mid : Input) → P a mid → Does H2 ys Q (f a) mid) → Ends H2 (xs ++ ys) Q start (and_then o f)
   bound {A} {B} P Q xs start (Ok p) e f q = after_read B Q e.0 (f p.0 p.1) (q p.0 p.1 e.1).ends
   bound P Q xs start (Err (errors.Wrong left)) e f q = refused_then e
-  bound P Q xs start (Err errors.TooDeep) e f q = tt
+  bound P Q xs start (Err errors.TooDeep) e f q = past_then e
   bound P Q xs start (Err errors.Spent) e f q = absurd e
   bound P Q xs start (Err errors.NoMemory) e f q = absurd e
 
@@ -76,7 +104,7 @@ any_follows H ys = record { step = λ behind h. tt }
 
 pub give : {A : Type 0} {H : Stack → Type 0} {P : A → Input → Type 0} (a : A) (start : Input) → P a start → Does H [] P (pure a) start
 give a start h = record {
-  ends = (record { used = []; cut = refl; goes = λ behind more b. b; only = λ behind front back e h b. b }, h);
+  ends = (record { used = []; cut = refl; run = Reaches.here; goes = λ behind more b. b; only = λ behind front back e h b. b }, h);
 }
 
 pub weaken : {A : Type 0} {H : Stack → Type 0} {xs : Stack} {P Q : A → Input → Type 0} {p : Parser A} {start : Input}
@@ -86,7 +114,7 @@ weaken {A} {H} {xs} {P} {Q} {p} {start} f d = record { ends = go (p start) d.end
     go : (o : Outcome A) → Ends H xs P start o → Ends H xs Q start o
     go (Ok q) e = (e.0, f q.0 q.1 e.1)
     go (Err (errors.Wrong left)) e = e
-    go (Err errors.TooDeep) e = tt
+    go (Err errors.TooDeep) e = e
     go (Err errors.Spent) e = absurd e
     go (Err errors.NoMemory) e = absurd e
 
@@ -100,7 +128,7 @@ pub loosen : {A : Type 0} {H : Stack → Type 0} {xs : Stack} {P : A → Input �
 loosen {A} {H} {xs} {P} {p} {start} d = record { ends = go (p start) d.ends }
   where
     go : (o : Outcome A) → Ends Any xs P start o → Ends H xs P start o
-    go (Ok q) e = (record { used = e.0.used; cut = e.0.cut; goes = e.0.goes; only = λ behind front back is h b. e.0.only behind front back is tt b }, e.1)
+    go (Ok q) e = (record { used = e.0.used; cut = e.0.cut; run = e.0.run; goes = e.0.goes; only = λ behind front back is h b. e.0.only behind front back is tt b }, e.1)
     go (Err (errors.Wrong left)) e = record {
       rest = e.rest;
       left_is = e.left_is;
@@ -109,6 +137,6 @@ loosen {A} {H} {xs} {P} {p} {start} d = record { ends = go (p start) d.ends }
       goes = e.goes;
       none = λ behind t ts is h b. e.none behind t ts is tt b;
     }
-    go (Err errors.TooDeep) e = tt
+    go (Err errors.TooDeep) e = e
     go (Err errors.Spent) e = absurd e
     go (Err errors.NoMemory) e = absurd e

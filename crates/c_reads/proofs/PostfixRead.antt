@@ -15,12 +15,12 @@ use Rattle.c_grammar.specs.Terminals.{Terminal}
 use Rattle.c_grammar.specs.Terminals as w
 use Rattle.c_grammar.specs.Tokens.{is_mark, is_mark_of, is_name, is_number, is_character, is_text, name_in, bytes_of}
 use Rattle.c_grammar.specs.Trees.{expression}
-use Rattle.c_cursor.specs.PostfixMarks.{operator_marks, begins_operator}
+use Rattle.c_kinds.specs.PostfixMarks.{operator_marks, begins_operator}
 use Rattle.c_reads.specs.Exact.{Stack, Stops, Makes, Does, Parses}
 use Rattle.c_cursor.specs.Parsers.{Input, Parser, ◌>>=◌, turns}
-use Rattle.c_reads.specs.Postfix.{name, constant, texts_from, texts, text, enclosed, parenthesised, primary, subscript, one_argument, arguments_from, some_arguments, arguments, call, member, arrow, bump, operator, operators_from, operators, postfix, Inside, postfix_goes_on}
+use Rattle.c_reads.specs.Postfix.{name, constant, texts_from, texts, text, enclosed, parenthesised, primary, subscript, one_argument, arguments_from, some_arguments, arguments, call, member, arrow, bump, some_operator, operator, operators_from, operators, postfix, Inside, postfix_goes_on}
 use Rattle.c_reads.proofs.Binding.{Follows, bind, Any, any_follows, give, weaken, here, loosen}
-use Rattle.c_reads.proofs.Steps.{◌then◌, nothing, by_rule, shrinks, took_less, undone, behind_change, tested, taking, changing, either, either_then, rule, stopped, Picks, head_of, chooses}
+use Rattle.c_reads.proofs.Steps.{◌then◌, nothing, by_rule, shrinks, took_less, undone, behind_change, tested, taking, changing, either, either_then, stopping_then, rule, stopped, Picks, head_of, chooses}
 
 pub mark_is : (m : ℕ) (kind : LexemeKind) → is_mark m kind ≡ true → kind ≡ k.Mark m
 mark_is m (k.Mark n) h = ap k.Mark (eqb-true n m h)
@@ -363,10 +363,11 @@ module _ (inside argument : Parser Expr) (exact : Inside inside argument) where
   applied n a i enough more d = bind (any_follows PostfixOver (symbol Sym.AfterPostfix ∷ [])) d (λ b mid y. weaken (λ c end z. y.makes c end z) (more b mid (let less = y.less in omega arith)))
 
   does_operators_from : (n : ℕ) (a : Expr) (i : Input) → length i.rest < n → Parses PostfixOver Sym.AfterPostfix a (operators_from inside argument n a) i
-  unfolding operators_from operator
+  unfolding operators_from operator some_operator
   does_operators_from zero a i enough = absurd (omega arith)
   does_operators_from (suc n) a i enough = either begins_operator
-      (λ on. either_then (w.mark m.left_bracket) (subscript inside argument a) _ (operators_from inside argument n)
+      (λ on. stopping_then (some_operator inside argument a) (operators_from inside argument n)
+      (either_then (w.mark m.left_bracket) (subscript inside argument a) _ (operators_from inside argument n)
       (λ s. rule (chooses i picks_after (Rule.subscript some_tree some_tree some_tree some_token some_token)
       (λ t ts x. rw (head_of begins_operator i true on t ts x, head_of (w.mark m.left_bracket) i true s t ts x)))
       (applied n a i enough (does_operators_from n) (does_subscript a i)))
@@ -396,7 +397,7 @@ module _ (inside argument : Parser Expr) (exact : Inside inside argument) where
         head_of (w.mark m.period) i false u2 t ts x,
         head_of (w.mark m.arrow) i false u3 t ts x,
       )))
-      (applied n a i enough (does_operators_from n) (does_bump a i)))))))
+      (applied n a i enough (does_operators_from n) (does_bump a i))))))))
       (λ off. rule (chooses i picks_after (Rule.no_postfix some_tree) (λ t ts x. rw (head_of begins_operator i false off t ts x)))
       (give a i (by_rule (Rule.no_postfix a) (nothing i))))
 

@@ -1,15 +1,16 @@
 -- What the steps of a parser do, and the choice of a rule.
 use Rattle.std.proofs.Common.{◌≡◌, ℕ, ◌≤◌, ◌<◌, ◌+◌, Bool, true, false, List, [], ◌∷◌, ◌++◌, length, Ok, Err, refl, sym, ap, ◌∙◌, subst, append_assoc, length-append, arith, cond}
 use Rattle.std.proofs.lemmas.Bool.{cond_both}
+use Rattle.std.proofs.lemmas.List.{append-nil}
 use Rattle.c_tree.specs.declared.lexeme.Lexeme.{Lexeme}
-use Rattle.c_grammar.specs.Derives.{Derives, Begins}
+use Rattle.c_grammar.specs.Derives.{Derives, Begins, Reaches}
 use Rattle.c_grammar.specs.Items.{Sym, In, Out, Item, term, act, nt, some, change as changed, sym as symbol, shapes}
 use Rattle.c_grammar.specs.Productions.{Rule}
 use Rattle.c_grammar.specs.State.{State}
 use Rattle.c_grammar.specs.Terminals.{Terminal}
 use Rattle.c_cursor.specs.declared.error.ReadError.TheVariants as errors
-use Rattle.c_reads.specs.Exact.{Stack, Stops, Read, Refused, Makes, Ends, Does}
-use Rattle.c_cursor.specs.Parsers.{Input, Outcome, Parser, and_then, ◌>>=◌, take, taken, change, sees, sees_in, on}
+use Rattle.c_reads.specs.Exact.{Stack, Stops, Read, Refused, Past, Makes, Ends, Does}
+use Rattle.c_cursor.specs.Parsers.{Input, Outcome, Parser, and_then, ◌>>=◌, ◌>>◌, take, taken, change, sees, sees_in, on, past_limit, within_limits}
 use Rattle.c_reads.proofs.Binding.{Follows, bind, Any, any_follows}
 
 infixl 12 ◌then◌
@@ -53,7 +54,7 @@ take_ends : (H : Stack → Type 0) (w : Terminal) (s : State) (ts : List Lexeme)
 take_ends H w s [] = record { rest = []; left_is = refl; used = []; cut = refl; goes = λ behind. Begins.stop; none = λ behind t ts e h b. cc }
 take_ends H w s (t ∷ ts) = cond_both (w.fits s t) _ _ (λ (o : Outcome Lexeme). Taking H w s (t ∷ ts) o)
     (λ e. (
-      record { used = t ∷ []; cut = refl; goes = λ behind more b. Begins.token e b; only = λ behind front back is h b. (tested w behind s t front b).1 },
+      record { used = t ∷ []; cut = refl; run = Reaches.token e Reaches.here; goes = λ behind more b. Begins.token e b; only = λ behind front back is h b. (tested w behind s t front b).1 },
       record { rest = refl; fits = e; makes = record { used = t ∷ []; cut = refl; sound = λ behind more last d. Derives.token e d } },
     ))
     (λ e. record { rest = t ∷ ts; left_is = refl; used = []; cut = refl; goes = λ behind. Begins.stop; none = λ behind u us is h b. misfit w behind s t u ts us is e b })
@@ -80,7 +81,7 @@ change_does : (f : State → State) (start : Input) → Does Any (changed f ∷ 
 unfolding change
 change_does f start = record {
   ends = (
-    record { used = []; cut = refl; goes = λ behind more b. Begins.acted b; only = λ behind front back e h b. undone f behind start.state front b },
+    record { used = []; cut = refl; run = Reaches.acted Reaches.here; goes = λ behind more b. Begins.acted b; only = λ behind front back e h b. undone f behind start.state front b },
     record { used = []; cut = refl; sound = λ behind more last d. Derives.acted d },
   );
 }
@@ -106,16 +107,29 @@ unfolding on
 either_then {A} {B} {H = H} {xs = xs} {Q = Q} {i = i} w p q f x y =
     record { ends = chosen (λ (o : Outcome A). Ends H xs Q i (and_then o f)) (sees w i) (p i) (q i) (λ e. (x e).ends) (λ e. (y e).ends) }
 
+-- gives up where a limit was passed, and else goes on
+pub stopping_then : {A B : Type 0} {H : Stack → Type 0} {xs : Stack} {Q : B → Input → Type 0} {i : Input} (p : Parser A) (f : A → Parser B)
+    → Does H xs Q (p >>= f) i → Does H xs Q ((within_limits >> p) >>= f) i
+unfolding within_limits
+stopping_then {A} {B} {H = H} {xs = xs} {Q = Q} {i = i} p f d = record {
+  ends = chosen (λ (o : Outcome (Unit {0})). Ends H xs Q i (and_then (and_then o (λ _. p)) f)) (past_limit i.state)
+      (Err errors.TooDeep) (Ok (tt, i))
+      (λ e. record { used = []; rest = i.rest; cut = refl; left = xs; end = i.state; run = Reaches.here; passed = e })
+      (λ e. d.ends);
+}
+
 -- ---- the choice of a rule
 pub record Chooses (H : Stack → Type 0) (n : Sym) (xs : Stack) (i : Input) : Type 0 where
+  pub runs : (ts : List Lexeme) (left : Stack) (end : State) → Reaches xs i.state ts left end → Reaches (symbol n ∷ []) i.state ts left end
   pub goes : (behind : Stack) (more : List Lexeme) → Begins (xs ++ behind) i.state more → Begins (symbol n ∷ behind) i.state more
   pub only : (behind : Stack) (front back : List Lexeme) → i.rest ≡ front ++ back → H behind → Begins (symbol n ∷ behind) i.state front → Begins (xs ++ behind) i.state front
 
 module _ {H : Stack → Type 0} {n : Sym} {xs : Stack} {i : Input} (c : Chooses H n xs i) where
   rule_read : {end : Input} → Read H xs i end → Read H (symbol n ∷ []) i end
-  rule_read r = record {
+  rule_read {end} r = record {
     used = r.used;
     cut = r.cut;
+    run = c.runs r.used [] end.state r.run;
     goes = λ behind more h. c.goes behind (r.used ++ more) (r.goes behind more h);
     only = λ behind front back e h began.
         r.only behind front back e h (c.only behind (r.used ++ front) back (r.cut ∙ ap (λ u. r.used ++ u) e ∙ sym (append_assoc r.used front back)) h began);
@@ -132,10 +146,21 @@ module _ {H : Stack → Type 0} {n : Sym} {xs : Stack} {i : Input} (c : Chooses 
         r.none behind t ts e h (c.only behind (r.used ++ t ∷ []) ts (r.cut ∙ ap (λ u. r.used ++ u) e ∙ sym (append_assoc r.used (t ∷ []) ts)) h began);
   }
 
+  rule_past : Past xs i → Past (symbol n ∷ []) i
+  rule_past p = record {
+    used = p.used;
+    rest = p.rest;
+    cut = p.cut;
+    left = p.left;
+    end = p.end;
+    run = c.runs p.used p.left p.end p.run;
+    passed = p.passed;
+  }
+
   rule_ends : (A : Type 0) (P : A → Input → Type 0) (o : Outcome A) → Ends H xs P i o → Ends H (symbol n ∷ []) P i o
   rule_ends A P (Ok p) r = (rule_read r.0, r.1)
   rule_ends A P (Err (errors.Wrong left)) r = rule_refused r
-  rule_ends A P (Err errors.TooDeep) r = tt
+  rule_ends A P (Err errors.TooDeep) r = rule_past r
   rule_ends A P (Err errors.Spent) r = absurd r
   rule_ends A P (Err errors.NoMemory) r = absurd r
 
@@ -159,8 +184,11 @@ head_of w i b seen t ts is = subst (λ (r : List Lexeme). sees_in w i.state r �
 
 pub chooses : {H : Stack → Type 0} {n : Sym} {pick : State → Lexeme → Stack} {a : In n} {b : Out n} {items : List Item} (i : Input) → Picks H n pick → Rule n a b items
     → ((t : Lexeme) (ts : List Lexeme) → i.rest ≡ t ∷ ts → pick i.state t ≡ shapes items) → Chooses H n (shapes items) i
-chooses {H} {n} {pick} {a} {b} {items} i picks r picked = record { goes = λ behind more began. Begins.by r began; only = go }
+chooses {H} {n} {pick} {a} {b} {items} i picks r picked = record { runs = through; goes = λ behind more began. Begins.by r began; only = go }
   where
+    through : (ts : List Lexeme) (left : Stack) (end : State) → Reaches (shapes items) i.state ts left end → Reaches (symbol n ∷ []) i.state ts left end
+    through ts left end q = Reaches.by r (subst (λ (ss : Stack). Reaches ss i.state ts left end) (sym (append-nil (shapes items))) q)
+
     go : (behind : Stack) (front back : List Lexeme) → i.rest ≡ front ++ back → H behind → Begins (symbol n ∷ behind) i.state front → Begins (shapes items ++ behind) i.state front
     go behind [] back e h began = Begins.stop
     go behind (t ∷ front) back e h began =

@@ -12,8 +12,8 @@ use Rattle.c_grammar.specs.Terminals as w
 use Rattle.c_grammar.specs.Tokens.{is_mark, is_mark_of, is_text, name_of, bytes_of}
 use Rattle.c_grammar.specs.Trees.{expression, constant_in, goes_up}
 use Rattle.c_cursor.specs.declared.error.ReadError.TheVariants as errors
-use Rattle.c_cursor.specs.PostfixMarks.{begins_operator}
-use Rattle.c_cursor.specs.Parsers.{Input, Parser, ◌>>=◌, ◌>>◌, pure, take, change, on, turns}
+use Rattle.c_kinds.specs.PostfixMarks.{begins_operator}
+use Rattle.c_cursor.specs.Parsers.{Input, Parser, ◌>>=◌, ◌>>◌, pure, take, change, on, within_limits, turns}
 use Rattle.c_reads.specs.Exact.{Stack, Stops, Parses}
 
 -- ---- primary expressions
@@ -116,9 +116,13 @@ module _ (inside : Parser Expr) (argument : Parser Expr) where
     t ← take (w.closing (w.operator w.bump))
     pure (expression t (e.Bump (goes_up t) false a))
 
-  unfoldable pub operator : Expr → Parser Expr
-  operator a = on (w.mark m.left_bracket) (subscript a) (on (w.mark m.left_parenthesis) (call a) (on (w.mark m.period) (member a)
+  unfoldable pub some_operator : Expr → Parser Expr
+  some_operator a = on (w.mark m.left_bracket) (subscript a) (on (w.mark m.left_parenthesis) (call a) (on (w.mark m.period) (member a)
       (on (w.mark m.arrow) (arrow a) (bump a))))
+
+  -- an operator where no limit is passed
+  unfoldable pub operator : Expr → Parser Expr
+  operator a = within_limits >> some_operator a
 
   unfoldable pub operators_from : ℕ → Expr → Parser Expr
   operators_from zero a = λ i. Err errors.Spent

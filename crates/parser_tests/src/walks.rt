@@ -1,8 +1,8 @@
 mod steps;
 
 use self::steps::{keyword_of, mark_of, step};
-use c_cursor::kinds::{bytes_in, name_in};
 use c_cursor::{Cursor, ReadError};
+use c_kinds::kinds::{bytes_in, name_in};
 use c_syntax::{marks, words};
 use c_tree::{Lexeme, LexemeKind};
 use c_values::IntType;

@@ -3,8 +3,8 @@ ghost use Rattle.std.specs.Prelude.{◌≡◌, Ok, Some, slice_get, MatchResult}
 
 use super::Cursor;
 use crate::error::ReadError;
-use crate::keywords::{is_plain_specifier, is_record_word, is_type_word, is_word};
-use crate::kinds::{is_mark, is_name, name_in};
+use c_kinds::keywords::{is_plain_specifier, is_record_word, is_type_word, is_word};
+use c_kinds::kinds::{is_mark, is_name, name_in};
 use c_syntax::words;
 use c_tree::Lexeme;
 

@@ -5,7 +5,7 @@ ghost use Rattle.c_cursor.specs.Parsers.{sees, take, Takes};
 
 use super::Cursor;
 use crate::error::ReadError;
-use crate::kinds::{is_name, name_in};
+use c_kinds::kinds::{is_name, name_in};
 use c_tree::Lexeme;
 
 impl<'a> Cursor<'a> {

@@ -13,7 +13,8 @@ impl<'a> Cursor<'a> {
         ensures changes { Reads (change state.enter self.old) result self.new }
         ensures stays { OnErr result (self.new ≡ self.old) }
     {
-        self.nesting.enter()
+        self.nesting.enter()?;
+        Ok(())
     }
 
     /// A node closes, and its operand joins the one around it.
@@ -30,7 +31,8 @@ impl<'a> Cursor<'a> {
         ensures changes { Reads (change state.begin_operand self.old) result self.new }
         ensures stays { OnErr result (self.new ≡ self.old) }
     {
-        self.nesting.begin_operand()
+        self.nesting.begin_operand()?;
+        Ok(())
     }
 
     /// An operand ends, and joins the one around it.

@@ -3,11 +3,11 @@ ghost use Rattle.std.specs.Prelude.{◌≡◌, ◌≢◌, ◌≤◌, IfErr, IsEr
 ghost use Rattle.c_grammar.specs.State as state;
 ghost use Rattle.c_grammar.specs.Terminals as w;
 ghost use Rattle.c_cursor.specs.Parsers.{sees, take, Takes};
-ghost use Rattle.c_cursor.specs.PostfixMarks.{begins_operator};
+ghost use Rattle.c_kinds.specs.PostfixMarks.{begins_operator};
 
 use super::Cursor;
 use crate::error::ReadError;
-use crate::kinds::{is_character, is_number, is_postfix, is_text};
+use c_kinds::kinds::{is_character, is_number, is_postfix, is_text};
 use c_tree::Lexeme;
 
 impl<'a> Cursor<'a> {

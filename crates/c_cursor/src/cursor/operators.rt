@@ -6,8 +6,8 @@ ghost use Rattle.c_cursor.specs.Parsers.{sees, take, change, Takes};
 
 use super::Cursor;
 use crate::error::ReadError;
-use crate::kinds::is_bump;
-use crate::operators::{is_assignment, is_binary, is_unary};
+use c_kinds::kinds::is_bump;
+use c_kinds::operators::{is_assignment, is_binary, is_unary};
 use c_tree::Lexeme;
 
 impl<'a> Cursor<'a> {

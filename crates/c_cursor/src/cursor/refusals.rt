@@ -1,5 +1,6 @@
 //! Why a source is refused at a token: a limit that is passed, or a construct that the profile leaves out.
 ghost use Rattle.std.specs.Prelude.{◌≡◌};
+ghost use Rattle.c_cursor.specs.Parsers.{within_limits, Reads};
 
 use super::Cursor;
 use crate::error::ReadError;
@@ -12,8 +13,11 @@ impl<'a> Cursor<'a> {
     }
 
     /// Refuses where a limit was passed, so that nothing more is read.
-    pub fn stop_past_limit(&self) -> Result<(), ReadError> {
-        if self.past.is_some() {
+    #[tactic(auto, unfolding(crate::specs::Parsers::within_limits))]
+    pub fn stop_past_limit(&self) -> Result<(), ReadError>
+        ensures { Reads (within_limits self.now) result self.now }
+    {
+        if self.nesting.passed() || self.loops.passed() {
             Err(ReadError::TooDeep)
         } else {
             Ok(())

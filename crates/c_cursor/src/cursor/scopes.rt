@@ -25,10 +25,10 @@ impl<'a> Cursor<'a> {
         self.frames.finish();
     }
 
-    /// The specifiers are over: a name that comes next is no typedef name among them, and may be declared anew.
+    /// The specifiers are over, at a `*`, a nesting `(` or a `,`: a typedef name that comes next is no type word, and may be declared anew.
     #[tactic(auto, unfolding(crate::specs::Parsers::change))]
     pub fn end_specifiers(&mut self)
-        ensures { change state.see_type self.old ≡ Ok (tt, self.new) }
+        ensures { change state.end_specifiers self.old ≡ Ok (tt, self.new) }
     {
         self.frames.see_type();
     }

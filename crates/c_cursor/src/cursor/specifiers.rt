@@ -5,8 +5,8 @@ ghost use Rattle.c_cursor.specs.Parsers.{sees, take, Takes};
 
 use super::Cursor;
 use crate::error::ReadError;
-use crate::keywords::{is_plain_specifier, is_qualifier, is_record_word, is_type_word};
-use crate::kinds::{is_name, name_in};
+use c_kinds::keywords::{is_plain_specifier, is_qualifier, is_record_word, is_type_word};
+use c_kinds::kinds::{is_name, name_in};
 use c_syntax::words;
 use c_tree::Lexeme;
 

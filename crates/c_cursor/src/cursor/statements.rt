@@ -6,7 +6,7 @@ ghost use Rattle.c_cursor.specs.Parsers.{sees, take, change, Takes};
 
 use super::Cursor;
 use crate::error::ReadError;
-use crate::keywords::is_word;
+use c_kinds::keywords::is_word;
 use c_syntax::words;
 use c_tree::Lexeme;
 

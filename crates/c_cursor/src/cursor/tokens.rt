@@ -7,8 +7,8 @@ ghost use Rattle.c_cursor.specs.Parsers.{sees, take, Takes};
 
 use super::Cursor;
 use crate::error::ReadError;
-use crate::keywords::{is_end, is_word};
-use crate::kinds::{is_mark, is_name};
+use c_kinds::keywords::{is_end, is_word};
+use c_kinds::kinds::{is_mark, is_name};
 use c_tree::Lexeme;
 
 impl<'a> Cursor<'a> {

@@ -4,6 +4,7 @@ use Rattle.c_grammar_examples.proofs.Designator as designator
 use Rattle.c_grammar_examples.proofs.FunctionOfFunctions as function_of_functions
 use Rattle.c_grammar_examples.proofs.NearestIf as nearest_if
 use Rattle.c_grammar_examples.proofs.Structure as structure
+use Rattle.c_grammar_examples.proofs.TypedefAnew as typedefs_anew
 use Rattle.c_grammar_examples.proofs.files_with_their_trees.Goals as goal
 
 pub returns-clause-array_store : goal.returns-clause-array_store
@@ -23,3 +24,6 @@ returns-clause-structure c = record { end = structure.last; derives = structure.
 
 pub returns-clause-designator : goal.returns-clause-designator
 returns-clause-designator c = record { end = designator.last; derives = designator.derived }
+
+pub returns-clause-typedefs_anew : goal.returns-clause-typedefs_anew
+returns-clause-typedefs_anew c = record { end = typedefs_anew.last; derives = typedefs_anew.derived }

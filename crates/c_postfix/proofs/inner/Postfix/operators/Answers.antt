@@ -1,7 +1,7 @@
 use Rattle.std.proofs.Common.{rules, ◌≡◌, true, false, ◌∙◌, arith}
 use Rattle.std.proofs.lemmas.Grind.{common_steps}
 use Rattle.c_cursor.specs.Parsers.{on, sees}
-use Rattle.c_cursor.specs.PostfixMarks.{begins_operator}
+use Rattle.c_kinds.specs.PostfixMarks.{begins_operator}
 use Rattle.c_reads.specs.Postfix.{operators, operators_from}
 use Rattle.c_postfix.proofs.Loops.{operators_stop, operators_go, operators_spent}
 use Rattle.c_postfix.proofs.Turns.{begun, one_more, no_more}
