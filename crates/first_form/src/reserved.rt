@@ -6,7 +6,24 @@ ghost use Rattle.first_form.specs.Form.{is_reserved};
 use c_syntax::keyword_number;
 
 /// The words to which GCC gives a meaning of its own, and `main`.
-const WORDS: [&[u8]; 0] = [];
+const WORDS: [&[u8]; 16] = [
+    b"__attribute__",
+    b"__attribute",
+    b"__extension__",
+    b"__asm__",
+    b"__asm",
+    b"asm",
+    b"__inline",
+    b"__inline__",
+    b"__restrict",
+    b"__restrict__",
+    b"__const",
+    b"__volatile__",
+    b"__signed__",
+    b"__typeof__",
+    b"__builtin_va_list",
+    b"main",
+];
 
 /// Whether the text is one of the words.
 fn is_among(text: &[u8], words: &[&[u8]]) -> bool
@@ -19,5 +36,8 @@ fn is_among(text: &[u8], words: &[&[u8]]) -> bool
 pub(crate) fn is_reserved(text: &[u8]) -> bool
     ensures { result ≡ is_reserved text.now }
 {
-    keyword_number(text).is_some() || is_among(text, &WORDS)
+    match keyword_number(text) {
+        Some(_) => true,
+        None => is_among(text, &WORDS),
+    }
 }
