@@ -18,7 +18,7 @@ from large_sources import LARGE
 
 SECONDS = 60
 MEMORY = 4 * 2**30
-FAULT = re.compile(rb"[^\n]+:\d+:\d+: (lex|syntax|unsupported|typing|link|limit) \d+ [^\n]+\n")
+FAULT = re.compile(rb"[^\n]+:\d+:\d+: (lex|syntax|unsupported|type|link|limit) \d+ [^\n]+\n")
 
 
 def limits():
