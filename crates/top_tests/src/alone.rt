@@ -203,9 +203,12 @@ fn is_answered(
 
 fn is_row(alloc: Global, row: &str) -> Result<bool, AllocError> {
     let mut parts = row.split('`');
-    let (Some(line), Some(text), Some(report), Some(complaint)) =
-        (parts.next(), parts.next(), parts.next(), parts.next())
-    else {
+    let (Some(line), Some(text), Some(report), Some(complaint)) = (
+        parts.next(),
+        parts.next(),
+        parts.next(),
+        parts.next(),
+    ) else {
         return Ok(false);
     };
     match number_of(parts.next()) {
