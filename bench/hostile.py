@@ -18,7 +18,7 @@ from large_sources import LARGE
 
 SECONDS = 60
 MEMORY = 4 * 2**30
-FAULT = re.compile(rb"[^\n]+:\d+:\d+: (lex|syntax|unsupported|typing|link|limit) \d+ [^\n]+\n")
+FAULT = re.compile(rb"[^\n]+:\d+:\d+: (lex|syntax|unsupported|type|link|limit) \d+ [^\n]+\n")
 
 
 def limits():
@@ -93,8 +93,14 @@ def many(program, folder, all_cases):
         if fault:
             bad += 1
             print(f"{name}: {fault}", flush=True)
-    print("cases by status: " + ", ".join(f"{status}: {statuses[status]}" for status in sorted(statuses)))
+        if sum(statuses.values()) % 500 == 0:
+            tell(statuses)
+    tell(statuses)
     return bad
+
+
+def tell(statuses):
+    print("cases by status: " + ", ".join(f"{status}: {statuses[status]}" for status in sorted(statuses)), flush=True)
 
 
 def main():
