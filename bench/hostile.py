@@ -93,8 +93,14 @@ def many(program, folder, all_cases):
         if fault:
             bad += 1
             print(f"{name}: {fault}", flush=True)
-    print("cases by status: " + ", ".join(f"{status}: {statuses[status]}" for status in sorted(statuses)))
+        if sum(statuses.values()) % 500 == 0:
+            tell(statuses)
+    tell(statuses)
     return bad
+
+
+def tell(statuses):
+    print("cases by status: " + ", ".join(f"{status}: {statuses[status]}" for status in sorted(statuses)), flush=True)
 
 
 def main():
