@@ -1,9 +1,5 @@
-//! Tests of the cursor and of the parsers over it.
+//! Tests of the lexer and the parser together, on whole files.
 #![tactic(auto)]
 
 #[cfg(test)]
 mod files;
-#[cfg(test)]
-mod postfix;
-#[cfg(test)]
-mod walks;

@@ -4,12 +4,12 @@ use crate::analysis::Analysis;
 use crate::basis::Basis;
 use artifact_codec::decode;
 use core_ir::Stored;
-use round_facts::Artifacts;
+use round_facts::{Artifacts, FIRST_RISING};
 use std::alloc::Global;
 use std::sync::Arc;
 use sv_base::{Colour, NoMemory, SiteId};
 
-/// The rounds that are done, from the first one on.
+/// The rounds that are done, from the first one on. The artifacts of those that no later round reads are dropped.
 #[derive(Drop)]
 pub struct Alone {
     // by round, and then by task
@@ -62,7 +62,18 @@ impl Alone {
         }
     }
 
-    fn push(&mut self, row: Vec<Vec<u8>>) -> Result<(), NoMemory> {
+    // Of the rounds before the last one, the points-to sets and the clusters alone are read again.
+    fn drop_past(&mut self, alloc: Global) {
+        if let Some(before) = self.rounds.len().checked_sub(2) {
+            if before == 0 || FIRST_RISING as usize <= before {
+                if let Some(row) = self.rounds.get_mut(before) {
+                    *row = Vec::new(alloc);
+                }
+            }
+        }
+    }
+
+    fn push(&mut self, alloc: Global, row: Vec<Vec<u8>>) -> Result<(), NoMemory> {
         if self.still.is_none() {
             if let Some(last) = self.rounds.last() {
                 if is_same(last, &row) {
@@ -71,6 +82,7 @@ impl Alone {
             }
         }
         self.rounds.push(row)?;
+        self.drop_past(alloc);
         Ok(())
     }
 
@@ -94,7 +106,7 @@ impl Alone {
         match analysis.next(alloc, self.rounds(), self)? {
             Some((tasks, basis)) => {
                 let row = self.row(alloc, analysis, tasks, &basis)?;
-                self.push(row)?;
+                self.push(alloc, row)?;
                 Ok(true)
             }
             None => Ok(false),

@@ -11,7 +11,8 @@ use Rattle.sv_outside.specs.declared.sources.Loaded.TheVariants as loaded
 use Rattle.first_form.specs.declared.program.Program.{Program}
 use Rattle.survey.specs.Words.{Asked, only_one, only_file}
 use Rattle.survey.specs.Outcome.{IsFirstForm, LoadsSome, LoadedLast, loads_after}
-use Rattle.survey.specs.computed.Endings.{Source, Stands, AllStand, AllShort, IsFirst, IsLong, IsRefusal, StopsOne, Stopped}
+use Rattle.survey.specs.Sources.{Source, AllShort, IsFirst}
+use Rattle.survey.specs.computed.Endings.{Stands, AllStand, IsLong, IsRefusal, StopsOne, Stopped}
 use Rattle.survey.specs.declared.ending.Ending.{Ending}
 use Rattle.survey.specs.declared.ending.Ending.TheVariants as endings
 

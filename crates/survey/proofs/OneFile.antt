@@ -7,7 +7,9 @@ use Rattle.first_form.specs.Form.{IsForm}
 use Rattle.first_form.proofs.Both.{one_program}
 use Rattle.survey.specs.Words.{Asked, only_one, only_file}
 use Rattle.survey.specs.Colours.{lines_of, report, status}
-use Rattle.survey.specs.computed.Endings.{Source, IsFirst, AllShort, AnswersAny, AnswersFile, AnswersFirst, Answered, only_source}
+use Rattle.survey.specs.Sources.{Source, IsFirst, AllShort, Answered, IsSoundOf}
+use Rattle.survey.proofs.Soundness.{sound}
+use Rattle.survey.specs.computed.Endings.{AnswersAny, AnswersFile, AnswersFirst, only_source}
 use Rattle.survey.specs.declared.answer.Answer.{Answer}
 use Rattle.survey.specs.declared.answer.Answer.TheVariants as answers
 
@@ -77,3 +79,9 @@ pub any_answered : (answer : Answer) (a : Asked) (sources : List Source) → Ans
 any_answered (answers.Report text answer) a sources h none = record { is = (h, λ name program f. absurd (none name program f)) }
 any_answered (answers.Refused line) a sources h none = record { is = (h, none) }
 any_answered answers.NoMemory a sources h none = record { is = tt }
+
+-- where the sources are a file of the first form, the report has its lines
+pub sound_answer : (answer : Answer) (a : Asked) (sources : List Source) → Answered answer a sources → (name : List ℕ) (program : Program) → IsFirst a sources name program → IsSoundOf program answer
+sound_answer (answers.Report text answer) a sources h name program first = (lines_of name program, (h.is.1 name program first).0, sound name program)
+sound_answer (answers.Refused line) a sources h name program first = absurd (h.is.1 name program first)
+sound_answer answers.NoMemory a sources h name program first = tt

@@ -11,7 +11,8 @@ use Rattle.report.specs.Report.{is_alarm, report_status}
 use Rattle.survey.specs.Words.{Asked}
 use Rattle.survey.specs.Colours.{lines_of, report, status}
 use Rattle.survey.specs.Outcome.{IsReport, IsFaultLine, IsFirstForm, IsTooLarge, Reports, ReportsSound, CutsOff, GainsFront, Gives, Loads, LoadsSome, LoadedLast, IsStatus, IsReported, Complains, loads_after}
-use Rattle.survey.specs.computed.Endings.{Source, AllStand, IsFirst, Answers, Answered, PutAs, Counts, Loaded, Reported, Cut, Ended, Stopped, complaint_text, status_number}
+use Rattle.survey.specs.Sources.{Source, IsFirst, Answers, Answered}
+use Rattle.survey.specs.computed.Endings.{AllStand, PutAs, Counts, Loaded, Reported, Cut, Ended, Stopped, complaint_text, status_number}
 use Rattle.survey.specs.declared.answer.Answer.{Answer}
 use Rattle.survey.specs.declared.answer.Answer.TheVariants as answers
 use Rattle.survey.specs.declared.ending.Ending.{Ending}

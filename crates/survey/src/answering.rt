@@ -1,6 +1,8 @@
-ghost use Rattle.std.specs.Prelude.{◌≡◌, option_map};
+ghost use Rattle.std.specs.Prelude.{◌≡◌, ℕ, List, option_map};
+ghost use Rattle.first_form.specs.declared.program.Program.{Program as Checked};
 ghost use Rattle.survey.specs.computed.Asking.{asking};
-ghost use Rattle.survey.specs.computed.Endings.{Answered, AnswersFirst, AllShort, source_of, sources_of, only_source};
+ghost use Rattle.survey.specs.Sources.{IsFirst, IsSoundOf, Answered, AllShort, source_of, sources_of};
+ghost use Rattle.survey.specs.computed.Endings.{AnswersFirst, only_source};
 
 use crate::answer::Answer;
 use crate::asked::Asked;
@@ -33,9 +35,8 @@ fn answer_first(alloc: Global, asked: &Asked, files: &[SourceFile]) -> Option<An
     }
 }
 
-/// What is answered on the files that were loaded. A file of the first form takes a way of its own, on which its colours are
-/// proved.
-pub(crate) fn answer_of(alloc: Global, asked: &Asked, files: &[SourceFile]) -> Answer
+// A file of the first form takes a way of its own, on which its colours are proved.
+fn first_or_any(alloc: Global, asked: &Asked, files: &[SourceFile]) -> Answer
     requires { AllShort (sources_of files.now) }
     ensures { Answered result (asking asked.now) (sources_of files.now) }
 {
@@ -46,4 +47,20 @@ pub(crate) fn answer_of(alloc: Global, asked: &Asked, files: &[SourceFile]) -> A
             return answer;
         }
     }
+}
+
+/// What is answered on files by their bytes, whose names are those that are asked for. `survey_alone` loads the files, calls this and
+/// puts the report, so what is said here of bytes holds of those that were loaded, wherever they came from.
+pub fn answer_of(alloc: Global, asked: &Asked, files: &[SourceFile]) -> Answer
+    requires { AllShort (sources_of files.now) }
+
+    // The text of a report and its status, or the line of a fault. Of a program of the first form it is the report that its definition gives.
+    ensures answered { Answered result (asking asked.now) (sources_of files.now) }
+
+    // Of a program of the first form the colours are true of every run.
+    ensures sound { (name : List ℕ) (program : Checked) →
+        IsFirst (asking asked.now) (sources_of files.now) name program → IsSoundOf program result }
+{
+    let answer = first_or_any(alloc, asked, files);
+    answer
 }

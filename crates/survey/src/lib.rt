@@ -13,6 +13,8 @@ mod telling;
 mod top;
 mod words;
 
+pub use answer::Answer;
+pub use answering::answer_of;
 pub use asked::Asked;
 pub use ending::{Ending, complaint, status_number};
 pub use general::{assumed_of, first_name, lines_of, refusal};

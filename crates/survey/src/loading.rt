@@ -2,7 +2,8 @@ ghost use Rattle.std.specs.Prelude.{◌≡◌, ◌≤◌, length, IfOk, IfErr, O
 ghost use Rattle.sv_base.specs.Faults.{IsListed};
 ghost use Rattle.sv_outside.specs.Outside.{counted};
 ghost use Rattle.survey.specs.computed.Asking.{asking};
-ghost use Rattle.survey.specs.computed.Endings.{IsRefusal, IsUnread, Stands, StopsOne, source_of, sources_of, AllStand, Stopped};
+ghost use Rattle.survey.specs.Sources.{source_of, sources_of};
+ghost use Rattle.survey.specs.computed.Endings.{IsRefusal, IsUnread, Stands, StopsOne, AllStand, Stopped};
 ghost use Rattle.survey.specs.Outcome.{loads_after};
 
 use crate::asked::Asked;

@@ -1,5 +1,7 @@
 pub mod Rounds
 pub mod Shelves
 pub mod Sound
+pub mod Stored
+pub mod Batches
 pub mod Turns
 pub mod Works

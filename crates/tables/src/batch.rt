@@ -1,5 +1,6 @@
 //! Publications of one round whose records are written together.
-ghost use Rattle.std.specs.Prelude.{◌≤◌, ◌^◌};
+ghost use Rattle.std.specs.Prelude.{◌≡◌, ◌≤◌, ◌^◌, map};
+ghost use Rattle.tables.specs.Batches.{instead};
 
 use crate::Publish;
 use journal::Piece;
@@ -25,9 +26,15 @@ pub(crate) struct Batch {
 }
 
 impl Batch {
-    ghost use Rattle.std.specs.Prelude.{◌≡◌, ◌≤◌, ◌<◌, ◌^◌, ◌+◌, ◌-◌, length, OnOk};
+    ghost use Rattle.std.specs.Prelude.{◌≡◌, ◌≤◌, ◌<◌, ◌^◌, ◌+◌, ◌-◌, ◌++◌, ◌∷◌, [], List, None, length, OnOk};
+    ghost use Rattle.journal.specs.Format.{Entry};
+    ghost use Rattle.tables.specs.Batches.{IsPieceOf};
 
-    pub(crate) fn new(alloc: Global) -> Batch {
+    pub(crate) fn new(alloc: Global) -> Batch
+        ensures piece { result.piece ≡ None }
+        ensures taken { result.taken.items ≡ [] }
+        ensures answers { result.answers.items ≡ [] }
+    {
         Batch {
             piece: None,
             taken: Vec::new(alloc),
@@ -51,7 +58,11 @@ impl Batch {
     }
 
     /// Answers the next publication, of which no record is written.
-    pub(crate) fn refuse(&mut self, answer: Publish) -> Result<(), AllocError> {
+    pub(crate) fn refuse(&mut self, answer: Publish) -> Result<(), AllocError>
+        ensures piece { self.new.piece ≡ self.old.piece }
+        ensures taken { self.new.taken ≡ self.old.taken }
+        ensures answers { OnOk result (self.new.answers.items ≡ self.old.answers.items ++ answer ∷ []) }
+    {
         self.answers.push(answer)?;
         Ok(())
     }
@@ -66,6 +77,13 @@ impl Batch {
     ) -> Result<(), NoMemory>
         requires round { round < 2 ^ 32 - 1 }
         requires short { self.old.length + length body.now + 13 ≤ 2 ^ 31 }
+        ensures round { round < 2 ^ 32 - 1 }
+        ensures task { task < 2 ^ 32 }
+        ensures short { length body.now ≤ 2 ^ 31 }
+        ensures piece { (entries : List Entry) → IsPieceOf entries self.old.piece →
+            OnOk result (IsPieceOf (entries ++ record { round = round; task = task; body = body.now } ∷ []) self.new.piece) }
+        ensures taken { self.new.taken ≡ self.old.taken }
+        ensures answers { self.new.answers ≡ self.old.answers }
     {
         match self.piece.take() {
             None => {
@@ -81,14 +99,20 @@ impl Batch {
     }
 
     /// Takes the next publication, whose record was added.
-    pub(crate) fn take(&mut self, publication: Publication) -> Result<(), AllocError> {
+    pub(crate) fn take(&mut self, publication: Publication) -> Result<(), AllocError>
+        ensures piece { self.new.piece ≡ self.old.piece }
+        ensures taken { OnOk result (self.new.taken.items ≡ self.old.taken.items ++ publication ∷ []) }
+        ensures answers { OnOk result (self.new.answers.items ≡ self.old.answers.items ++ Publish.Stored ∷ []) }
+    {
         self.taken.push(publication)?;
         self.answers.push(Publish::Stored)?;
         Ok(())
     }
 
     /// What is to be written, the publications that were taken, and the answers.
-    pub(crate) fn into_parts(self) -> (Option<Piece>, Vec<Publication>, Vec<Publish>) {
+    pub(crate) fn into_parts(self) -> (Option<Piece>, Vec<Publication>, Vec<Publish>)
+        ensures { (result.0 ≡ self.piece) × (result.1 ≡ self.taken) × (result.2 ≡ self.answers) }
+    {
         let Batch {
             piece,
             taken,
@@ -99,13 +123,22 @@ impl Batch {
     }
 }
 
+fn instead(each: Publish, answer: Publish) -> Publish
+    ensures { result ≡ instead answer each }
+{
+    match each {
+        Publish::Stored => answer,
+        other => other,
+    }
+}
+
 /// The answers, with this one for each publication that was taken.
-pub(crate) fn answered(answers: Vec<Publish>, answer: Publish) -> Vec<Publish> {
+pub(crate) fn answered(answers: Vec<Publish>, answer: Publish) -> Vec<Publish>
+    ensures { result.items ≡ map (instead answer) answers.items }
+{
     let mut answers = answers;
     for each in answers.iter_mut() {
-        if *each == Publish::Stored {
-            *each = answer;
-        }
+        *each = instead(*each, answer);
     }
     answers
 }

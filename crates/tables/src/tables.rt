@@ -42,15 +42,20 @@ fn is_leased_by(standing: Option<Standing>, ticket: u64) -> bool
 }
 
 impl<D: Disk, W: Work> Tables<D, W> {
-    ghost use Rattle.std.specs.Prelude.{◌≡◌, ◌≢◌, ◌≤◌, ◌<◌, ◌^◌, ◌+◌, ◌*◌, ◌++◌, ◌∷◌, [], ℕ, true, false, length, All, Some, IfOk, IfErr, OnOk, OnErr, slice_get};
+    ghost use Rattle.std.specs.Prelude.{◌≡◌, ◌≢◌, ◌≤◌, ◌<◌, ◌^◌, ◌+◌, ◌*◌, ◌++◌, ◌∷◌, [], List, ℕ, true, false, length, All, Some, IfOk, IfErr, OnOk, OnErr, slice_get};
     ghost use Rattle.std.specs.Option.{option_copied};
     ghost use Rattle.lease_table.specs.Machine.{IsLeasedBy, Claims, Abandons, Expires};
     ghost use Rattle.lease_table.specs.Standings.{AllDone, SomeNotDone};
+    ghost use Rattle.sv_outside.specs.Outside.{Rose};
+    ghost use Rattle.journal.specs.Format.{Entry, IsBatch};
     ghost use Rattle.journal.specs.Journals.{journal_disk, journal_gate};
     ghost use Rattle.journal.specs.Pieces.{piece_bytes};
+    ghost use Rattle.journal.specs.Settling.{ArePlain};
     ghost use Rattle.tables.specs.Rounds.{Follows, claims_of, abandons_of, expires_of};
     ghost use Rattle.tables.specs.Shelves.{artifact_at};
     ghost use Rattle.tables.specs.Sound.{IsSound, machine_of, shelf_of, events_of, journal_of, is_repeated, record_body, record_size, StopsAt, Publishes, FollowsRound};
+    ghost use Rattle.tables.specs.Stored.{record_of, records_of, answered_by, is_stored, is_failed, written_by, HasFailed, Lasts, AllOrNone};
+    ghost use Rattle.tables.specs.Batches.{IsBatchOf};
     ghost use Rattle.tables.specs.Works.{IsNoMark};
 
     /// Opens a database, and takes what was published before. A refusal hands the disk back.
@@ -205,6 +210,13 @@ impl<D: Disk, W: Work> Tables<D, W> {
         ensures same { (self.new.opening ≡ self.old.opening) × (self.new.rounds ≡ self.old.rounds) }
         ensures gate_stays { OnErr result (journal_gate (journal_of self.new) ≡ journal_gate (journal_of self.old)) }
         ensures stops { IfErr result (StopsAt (journal_gate (journal_of self.old) + 1 + length (piece_bytes piece.now))) }
+        ensures lasts { (batch : List Entry) → IsBatch batch (piece_bytes piece.now) → ArePlain batch →
+            OnOk result (Lasts D.told D.may_leave batch (journal_of self.old) (journal_of self.new)) }
+        ensures any_moment { (batch : List Entry) → IsBatch batch (piece_bytes piece.now) → ArePlain batch →
+            AllOrNone D.told D.moment D.left_since D.may_leave batch (journal_of self.old) (journal_of self.new) }
+        ensures stays { IfErr result (λ stop. stop ≢ Stop.Disk → Lasts D.told D.may_leave [] (journal_of self.old) (journal_of self.new)) }
+        ensures nothing { IfErr result (λ stop. stop ≢ Stop.Disk → AllOrNone D.told D.moment D.left_since D.may_leave [] (journal_of self.old) (journal_of self.new)) }
+        ensures failed { IfErr result (λ stop. stop ≡ Stop.Disk → HasFailed D.faults (journal_of self.old) (journal_of self.new)) }
     {
         let _length = piece.len();
         match self.journal.reserve_for(piece) {
@@ -226,6 +238,9 @@ impl<D: Disk, W: Work> Tables<D, W> {
         ensures gate { OnOk result ((journal_gate (journal_of self.new) + 1 ≡ record_size self.old round task artifact.now) × (record_size self.old round task artifact.now ≤ 2 ^ 31)) }
         ensures stops { IfErr result (StopsAt (record_size self.old round task artifact.now)) }
         ensures same { (self.new.opening ≡ self.old.opening) × (self.new.rounds ≡ self.old.rounds) }
+        ensures lasts { OnOk result (Lasts D.told D.may_leave (record_of (shelf_of self.old) round task artifact.now ∷ []) (journal_of self.old) (journal_of self.new)) }
+        ensures any_moment { AllOrNone D.told D.moment D.left_since D.may_leave (record_of (shelf_of self.old) round task artifact.now ∷ []) (journal_of self.old) (journal_of self.new) }
+        ensures failed { IfErr result (λ stop. stop ≡ Stop.Disk → HasFailed D.faults (journal_of self.old) (journal_of self.new)) }
     {
         let body = self.body(round, task, artifact);
         let size = self.journal.size_with(body.len() as u64);
@@ -252,6 +267,12 @@ impl<D: Disk, W: Work> Tables<D, W> {
         ensures sound { IsSound D.told D.seen self.new }
         ensures opening { self.new.opening ≡ self.old.opening }
         ensures publishes { Publishes round task ticket artifact.items self.old result self.new }
+
+        // Once the answer is `Stored` each crash leaves the record of the artifact behind those before, and at any moment of the
+        // call it leaves that record or not.
+        ensures lasts { result ≡ Publish.Stored → Lasts D.told D.may_leave (record_of (shelf_of self.old) round task artifact.items ∷ []) (journal_of self.old) (journal_of self.new) }
+        ensures any_moment { AllOrNone D.told D.moment D.left_since D.may_leave (record_of (shelf_of self.old) round task artifact.items ∷ []) (journal_of self.old) (journal_of self.new) }
+        ensures failed { result ≡ Publish.Disk → HasFailed D.faults (journal_of self.old) (journal_of self.new) }
     {
         let _ = work;
         let standing = self.rounds.found(round, task);
@@ -281,6 +302,9 @@ impl<D: Disk, W: Work> Tables<D, W> {
         publication: Publication,
     ) -> Result<(), NoMemory>
         requires { IsSound D.told D.seen self.now }
+        ensures { (done : List Publication) →
+            IsBatchOf (shelf_of self.now) round done batch.old.piece batch.old.taken.items batch.old.answers.items →
+            OnOk result (IsBatchOf (shelf_of self.now) round (done ++ publication ∷ []) batch.new.piece batch.new.taken.items batch.new.answers.items) }
     {
         let task = publication.task;
         let ticket = publication.ticket;
@@ -304,6 +328,23 @@ impl<D: Disk, W: Work> Tables<D, W> {
         batch.write(alloc, round, task, body)?;
         batch.take(publication)?;
         Ok(())
+    }
+
+    // Answers publications, or adds their records to a batch.
+    fn decide_all(
+        &self,
+        alloc: Global,
+        round: u32,
+        publications: Vec<Publication>,
+    ) -> Result<Batch, NoMemory>
+        requires { IsSound D.told D.seen self.now }
+        ensures { IfOk result (λ b. IsBatchOf (shelf_of self.now) round publications.items b.piece b.taken.items b.answers.items) }
+    {
+        let mut batch = Batch::new(alloc);
+        for publication in publications {
+            self.decide(alloc, round, &mut batch, publication)?;
+        }
+        Ok(batch)
     }
 
     // Puts an artifact whose record was written.
@@ -354,12 +395,19 @@ impl<D: Disk, W: Work> Tables<D, W> {
         ensures opening { self.new.opening ≡ self.old.opening }
         ensures round { (machine_of self.new).round ≡ (machine_of self.old).round }
         ensures gate { journal_gate (journal_of self.old) ≤ journal_gate (journal_of self.new) }
+
+        // Each publication is answered. Unless a call of the disk failed, each crash after the call leaves the records of those
+        // that are stored behind the records before, and at any moment of the call it leaves all of them or none.
+        ensures answers { IfOk result (λ a. length a.items ≡ length publications.items) }
+        ensures lasts { IfOk result (λ a. answered_by is_failed publications.items a.items ≡ [] →
+            Lasts D.told D.may_leave (records_of (shelf_of self.old) round (answered_by is_stored publications.items a.items)) (journal_of self.old) (journal_of self.new)) }
+        ensures stays { OnErr result (Lasts D.told D.may_leave [] (journal_of self.old) (journal_of self.new)) }
+        ensures any_moment { AllOrNone D.told D.moment D.left_since D.may_leave (written_by (shelf_of self.old) round publications.items result) (journal_of self.old) (journal_of self.new) }
+        ensures failed { IfOk result (λ a. answered_by is_failed publications.items a.items ≢ [] →
+            (answered_by is_stored publications.items a.items ≡ []) × HasFailed D.faults (journal_of self.old) (journal_of self.new)) }
     {
         let _ = work;
-        let mut batch = Batch::new(alloc);
-        for publication in publications {
-            self.decide(alloc, round, &mut batch, publication)?;
-        }
+        let batch = self.decide_all(alloc, round, publications)?;
         let (piece, taken, answers) = batch.into_parts();
         let Some(piece) = piece else {
             return Ok(answers);

@@ -14,6 +14,7 @@ mod open;
 mod opening;
 mod patch;
 mod range;
+mod recent;
 mod running;
 mod state;
 mod trail;

@@ -1,7 +1,6 @@
 use crate::cluster::{Cluster, Kept};
 use std::alloc::Global;
 use std::collections::BTreeMap;
-use std::mem;
 use sv_base::NoMemory;
 
 /// What some clusters of a state are, or that the state is bottom.
@@ -11,8 +10,8 @@ pub struct Patch {
     pub(crate) clusters: Vec<(usize, Cluster)>,
     /// Of a patch of exits, by cluster its place in the list.
     places: BTreeMap<usize, usize>,
-    /// Of a patch of exits, the places of clusters that every exit changed so far.
-    changed: Vec<usize>,
+    /// Of a patch of exits, the time of the last change before the last exit.
+    pub(crate) seen: u64,
 }
 
 impl Patch {
@@ -22,7 +21,7 @@ impl Patch {
             bottom: true,
             clusters: Vec::new(alloc),
             places: BTreeMap::new(alloc),
-            changed: Vec::new(alloc),
+            seen: 0,
         }
     }
 
@@ -31,13 +30,10 @@ impl Patch {
     }
 
     /// A cluster that an exit changes and that the patch does not have yet.
-    pub(crate) fn add(&mut self, k: usize, cluster: Cluster, by_all: bool) -> Result<(), NoMemory> {
+    pub(crate) fn add(&mut self, k: usize, cluster: Cluster) -> Result<(), NoMemory> {
         let place = self.clusters.len();
         self.places.insert(k, place)?;
         self.clusters.push((k, cluster))?;
-        if by_all {
-            self.changed.push(place)?;
-        }
         Ok(())
     }
 
@@ -51,25 +47,6 @@ impl Patch {
             cluster.join(more);
         }
         true
-    }
-
-    /// Takes the places of the clusters that every exit changed so far.
-    pub(crate) fn take_changed(&mut self, alloc: Global) -> Vec<usize> {
-        mem::replace(&mut self.changed, Vec::new(alloc))
-    }
-
-    /// The cluster at a place was changed by every exit so far.
-    pub(crate) fn keep_changed(&mut self, place: usize) -> Result<(), NoMemory> {
-        self.changed.push(place)?;
-        Ok(())
-    }
-
-    /// The number of the cluster at a place.
-    pub(crate) fn cluster_at(&self, place: usize) -> Option<usize> {
-        match self.clusters.get(place) {
-            Some((k, _)) => return Some(*k),
-            None => return None,
-        }
     }
 }
 

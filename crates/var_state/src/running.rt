@@ -8,11 +8,14 @@ use intervals::Interval;
 use std::alloc::Global;
 use sv_base::NoMemory;
 
-// How much was saved when a mark was opened, and whether the state was bottom.
+// How much was saved when a mark was opened, and whether the state was bottom. What was changed since then, but not after the
+// time `joined`, has all that it had at the mark.
 #[derive(Clone, Copy)]
 struct Mark {
     at: usize,
     bottom: bool,
+    opened: u64,
+    joined: u64,
 }
 
 /// The state of an analysis that runs through a body, with a trail of what its clusters were at marks on the way. So it can go
@@ -161,9 +164,12 @@ impl Running {
     /// Opens a mark, and gives its number.
     pub fn mark(&mut self) -> Result<usize, NoMemory> {
         let number = self.marks.len();
+        let now = self.trail.recent.now();
         self.marks.push(Mark {
             at: self.trail.len(),
             bottom: self.state.bottom,
+            opened: now,
+            joined: now,
         })?;
         Ok(number)
     }
@@ -173,6 +179,16 @@ impl Running {
         if let Some(mark) = self.marks.pop() {
             let outer = self.newest().map(|outer| outer.at);
             self.trail.release(mark.at, outer);
+            if outer == Some(mark.at) {
+                self.note_joined(mark.joined);
+            }
+        }
+    }
+
+    // What the newest mark says of a time holds of this one.
+    fn note_joined(&mut self, time: u64) {
+        if let Some(mark) = self.marks.last_mut() {
+            mark.joined = time;
         }
     }
 
@@ -214,29 +230,46 @@ impl Running {
             self.undo();
             return self.replace(alloc, patch);
         }
-        let count = self.trail.len();
-        self.trail.start_list();
+        self.meet_all(&patch);
+        self.join_unmet();
+        let now = self.trail.recent.now();
+        self.note_joined(now);
         for (k, cluster) in &patch.clusters {
             self.save_cluster(alloc, *k)?;
-            self.trail.meet(*k);
             join_at(&mut self.state.clusters, *k, cluster);
         }
-        self.join_unmet(count);
         Ok(())
     }
 
+    // Begins a list with the clusters of the patch.
+    fn meet_all(&mut self, patch: &Patch) {
+        self.trail.start_list();
+        for (k, _) in &patch.clusters {
+            self.trail.meet(*k);
+        }
+    }
+
     // Joins each cluster that was changed since the newest mark, and that the list has not, with what it was there.
-    fn join_unmet(&mut self, count: usize) {
+    fn join_unmet(&mut self) {
         if let Some(mark) = self.newest() {
-            for at in mark.at..count {
-                self.join_unmet_at(at);
+            let mut next = self.trail.recent.latest_after(mark.joined);
+            for _ in 0..self.state.clusters.len() {
+                let Some(k) = next else {
+                    break;
+                };
+                next = self.trail.recent.older_after(k, mark.joined);
+                self.join_unmet_cluster(k, mark.at);
             }
         }
     }
 
-    fn join_unmet_at(&mut self, at: usize) {
-        if let Some(saved) = self.trail.unmet(at) {
-            join_at(&mut self.state.clusters, saved.cluster, &saved.value);
+    fn join_unmet_cluster(&mut self, k: usize, mark: usize) {
+        if self.trail.was_met(k) {
+            return;
+        }
+        if let Some(saved) = self.trail.saved_since(k, mark) {
+            join_at(&mut self.state.clusters, k, &saved.value);
+            self.trail.recent.change(k);
         }
     }
 
@@ -298,55 +331,45 @@ impl Running {
             return Ok(());
         }
         if let Some(mark) = self.marks.get(mark).copied() {
-            self.trail.start_list();
-            for at in mark.at..self.trail.len() {
-                self.add_exit(alloc, at, mark.at, exits)?;
+            let since = mark.opened.max(exits.seen);
+            let mut next = self.trail.recent.latest_after(since);
+            for _ in 0..self.state.clusters.len() {
+                let Some(k) = next else {
+                    break;
+                };
+                self.add_exit(alloc, k, mark.at, exits)?;
+                next = self.trail.recent.older_after(k, since);
             }
-            self.join_others(alloc, exits)?;
+            exits.seen = self.trail.recent.now();
             exits.bottom = false;
         }
         self.state.set_bottom();
         Ok(())
     }
 
-    // A cluster that was changed since the mark. One that the exits before did not change is joined with what it was there.
+    // A cluster that was changed, or put back, since the mark and the last exit. One that the exits before did not change is joined
+    // with what it was at the mark.
     fn add_exit(
         &mut self,
         alloc: Global,
-        at: usize,
+        k: usize,
         mark: usize,
         exits: &mut Patch,
     ) -> Result<(), NoMemory> {
-        let Some(saved) = self.trail.first_since(at, mark) else {
-            return Ok(());
-        };
-        let k = saved.cluster;
         let Some(cluster) = self.state.clusters.get(k) else {
             return Ok(());
         };
-        if !exits.join_cluster(k, cluster) {
-            let mut value = cluster.copy_of(alloc)?;
-            if !exits.bottom {
-                value.join(&saved.value);
-            }
-            exits.add(k, value, exits.bottom)?;
+        if exits.join_cluster(k, cluster) {
+            return Ok(());
         }
-        self.trail.meet(k);
-        Ok(())
-    }
-
-    // Clusters that every exit before changed, and this one does not: they are here what they were at the mark.
-    fn join_others(&mut self, alloc: Global, exits: &mut Patch) -> Result<(), NoMemory> {
-        for place in exits.take_changed(alloc) {
-            if let Some(k) = exits.cluster_at(place) {
-                if self.trail.was_met(k) {
-                    exits.keep_changed(place)?;
-                } else if let Some(cluster) = self.state.clusters.get(k) {
-                    let _ = exits.join_cluster(k, cluster);
-                }
-            }
+        let Some(saved) = self.trail.saved_since(k, mark) else {
+            return Ok(());
+        };
+        let mut value = cluster.copy_of(alloc)?;
+        if !exits.bottom {
+            value.join(&saved.value);
         }
-        Ok(())
+        exits.add(k, value)
     }
 
     /// Whether the state lies within the state at the newest mark.
@@ -403,6 +426,7 @@ impl Running {
             widening.kept.insert(k, kept)?;
         }
         if let Some(kept) = widening.kept.get_mut(&k) {
+            self.trail.recent.change(k);
             self.state.widen_cluster(k, kept);
         }
         Ok(())

@@ -1,6 +1,7 @@
 // What clusters were before they were changed.
 
 use crate::cluster::Cluster;
+use crate::recent::Recent;
 use std::alloc::Global;
 use std::mem;
 use sv_base::NoMemory;
@@ -17,6 +18,7 @@ pub(crate) struct Saved {
 #[derive(Drop)]
 pub(crate) struct Trail {
     pub(crate) saved: Vec<Saved>,
+    pub(crate) recent: Recent,
     last: Vec<Option<usize>>,
     /// By cluster, the last count of those that went through a list and met it.
     stamps: Vec<u64>,
@@ -56,6 +58,7 @@ impl Trail {
         let stamps = vec![in alloc; 0; clusters]?;
         Ok(Trail {
             saved: Vec::new(alloc),
+            recent: Recent::new(alloc, clusters)?,
             last,
             stamps,
             stamp: 0,
@@ -73,7 +76,7 @@ impl Trail {
         }
     }
 
-    /// Saves a cluster, unless it was saved since the mark.
+    /// Saves a cluster that is changed next, unless it was saved since the mark.
     pub(crate) fn save(
         &mut self,
         alloc: Global,
@@ -81,6 +84,7 @@ impl Trail {
         k: usize,
         mark: usize,
     ) -> Result<(), NoMemory> {
+        self.recent.change(k);
         let previous = self.last_of(k);
         if is_since(previous, mark) {
             return Ok(());
@@ -109,6 +113,7 @@ impl Trail {
                     previous,
                 } = saved;
                 note(&mut self.last, cluster, previous);
+                self.recent.change(cluster);
                 return Some((cluster, exchange(clusters, cluster, value)));
             }
             None => return None,
@@ -181,16 +186,24 @@ impl Trail {
         }
     }
 
-    /// What was saved at a place, where the list does not have its cluster.
-    pub(crate) fn unmet(&self, at: usize) -> Option<&Saved> {
-        match self.saved.get(at) {
-            Some(saved) => {
-                if self.was_met(saved.cluster) {
-                    return None;
+    // Where a cluster was saved first since the mark.
+    fn first_place(&self, cluster: usize, mark: usize) -> Option<usize> {
+        let mut found = None;
+        let mut at = self.last_of(cluster);
+        for _ in 0..self.saved.len() {
+            match at {
+                Some(place) if mark <= place => {
+                    found = at;
+                    at = self.saved.get(place)?.previous;
                 }
-                return Some(saved);
+                _ => break,
             }
-            None => return None,
         }
+        found
+    }
+
+    /// What a cluster was at the mark, where it was saved since.
+    pub(crate) fn saved_since(&self, cluster: usize, mark: usize) -> Option<&Saved> {
+        self.saved.get(self.first_place(cluster, mark)?)
     }
 }

@@ -7,23 +7,13 @@ use Rattle.first_form.specs.declared.program.Program.{Program}
 use Rattle.first_form.specs.Form.{IsForm}
 use Rattle.c_front.specs.declared.files.SourceFile.{SourceFile}
 use Rattle.survey.specs.Colours.{report, status}
-use Rattle.survey.specs.Words.{Asked, only_file}
+use Rattle.survey.specs.Words.{Asked}
+use Rattle.survey.specs.Sources.{Source, IsFirst, Answered}
 use Rattle.survey.specs.Outcome.{IsReport, IsFaultLine, IsFirstForm, IsTooLarge, Reports, CutsOff, GainsFront, Gives, LoadsSome, LoadedLast, loads_after, usage_text, cannot_read_text, not_written_text, no_memory_text}
 use Rattle.survey.specs.declared.answer.Answer.{Answer}
 use Rattle.survey.specs.declared.answer.Answer.TheVariants as answers
 use Rattle.survey.specs.declared.ending.Ending.{Ending}
 use Rattle.survey.specs.declared.ending.Ending.TheVariants as endings
-
--- the bytes of a text, and those that stand under the name
-pub record Source : Type 0 where
-  pub name : List ℕ
-  pub bytes : List ℕ
-
-abbrev pub source_of : SourceFile → Source
-source_of f = record { name = string_bytes f.name; bytes = f.bytes.items }
-
-abbrev pub sources_of : List SourceFile → List Source
-sources_of files = map source_of files
 
 -- these bytes stand under the name, where the sources tell what they hold, and they are no more than a file may have
 pub record Stands (told : Option Files) (s : Source) : Type 0 where
@@ -37,20 +27,6 @@ AllStand told (name ∷ names) (s ∷ more) = (s.name ≡ name) × Stands told s
 AllStand told [] (s ∷ more) = ⊥
 AllStand told (name ∷ names) [] = ⊥
 
--- these sources are one file, asked for from `main` alone, of the first form
-pub record IsFirst (a : Asked) (sources : List Source) (name : List ℕ) (program : Program) : Type 0 where
-  pub named : only_file a ≡ Some name
-  pub bytes : List ℕ
-  pub only : sources ≡ record { name = name; bytes = bytes } ∷ []
-  pub form : IsForm bytes program
-
--- what is answered on these sources
-abbrev pub Answers : Answer → Asked → List Source → Type 0
-Answers (answers.Report text answer) a sources =
-    IsReport text.items answer × ((name : List ℕ) (program : Program) → IsFirst a sources name program → (text.items ≡ report name program) × (answer ≡ status name program))
-Answers (answers.Refused line) a sources = IsFaultLine line.items × ((name : List ℕ) (program : Program) → ¬ IsFirst a sources name program)
-Answers answers.NoMemory a sources = Unit {0}
-
 -- what is answered on files of any form
 abbrev pub AnswersAny : Answer → Type 0
 AnswersAny (answers.Report text answer) = IsReport text.items answer
@@ -63,10 +39,6 @@ AnswersFile None name bytes = (program : Program) → ¬ IsForm bytes program
 AnswersFile (Some (answers.Report text answer)) name bytes = (program : Program) × IsForm bytes program × (text.items ≡ report name program) × (answer ≡ status name program)
 AnswersFile (Some (answers.Refused line)) name bytes = ⊥
 AnswersFile (Some answers.NoMemory) name bytes = Unit {0}
-
--- the same as a record, from which its parts are found
-pub record Answered (answer : Answer) (a : Asked) (sources : List Source) : Type 0 where
-  pub is : Answers answer a sources
 
 -- what is answered on these sources where they are one file of the first form; nothing where they are none
 abbrev pub AnswersFirst : Option Answer → Asked → List Source → Type 0
@@ -179,11 +151,6 @@ StopsOne endings.NoMemory told name room before now = Unit {0}
 StopsOne (endings.Reported answer) told name room before now = ⊥
 StopsOne endings.NotWritten told name room before now = ⊥
 StopsOne endings.Usage told name room before now = ⊥
-
--- each has no more bytes than a file may have
-abbrev pub AllShort : List Source → Type 0
-AllShort [] = Unit {0}
-AllShort (s ∷ more) = (length s.bytes ≤ FILE_BYTES) × AllShort more
 
 -- the one file that is asked for from `main` alone, where these are its sources
 abbrev pub only_source : Asked → List Source → Option Source

@@ -1,6 +1,6 @@
 use Rattle.std.proofs.Common.{sym}
 use Rattle.survey.specs.computed.Asking.{asking}
-use Rattle.survey.specs.computed.Endings.{source_of, sources_of}
+use Rattle.survey.specs.Sources.{source_of, sources_of}
 use Rattle.survey.proofs.OneFile.{answered}
 use Rattle.survey.proofs.answering.answer_first.Goals as goal
 

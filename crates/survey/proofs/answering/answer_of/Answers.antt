@@ -1,5 +1,5 @@
-use Rattle.survey.proofs.OneFile.{any_answered}
+use Rattle.survey.proofs.OneFile.{sound_answer}
 use Rattle.survey.proofs.answering.answer_of.Goals as goal
 
-pub returns-in-None : goal.returns-in-None
-returns-in-None c = any_answered c.answer_any-answer.result _ _ c.answer_any-answer.ensures c.in-None.ensures
+pub returns-clause-sound : goal.returns-clause-sound
+returns-clause-sound c = sound_answer c.first_or_any-answer.result _ _ c.first_or_any-answer.ensures

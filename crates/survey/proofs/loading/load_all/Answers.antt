@@ -2,7 +2,7 @@ use Rattle.std.proofs.Common.{◌≡◌, ℕ, ◌<◌, ◌-◌, ◌++◌, ◌∷
 use Rattle.std.specs.Prelude.{map, string_bytes}
 use Rattle.std.proofs.lemmas.List.{map-append}
 use Rattle.survey.specs.computed.Asking.{asking}
-use Rattle.survey.specs.computed.Endings.{Source, source_of, sources_of}
+use Rattle.survey.specs.Sources.{Source, source_of, sources_of}
 use Rattle.survey.specs.declared.ending.Ending.TheVariants as endings
 use Rattle.survey.proofs.Loads.{SoFar, stopped, turned, named_at}
 use Rattle.survey.proofs.loading.load_all.Goals as goal

@@ -1,5 +1,5 @@
 use Rattle.survey.specs.computed.Asking.{asking}
-use Rattle.survey.specs.computed.Endings.{sources_of}
+use Rattle.survey.specs.Sources.{sources_of}
 use Rattle.survey.proofs.Loads.{SoFar}
 use Rattle.std.proofs.Common.{◌≡◌}
 use Rattle.survey.proofs.loading.load_all.Given as goal

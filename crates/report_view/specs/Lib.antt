@@ -1,0 +1,4 @@
+pub mod Letters
+pub mod Sites
+pub mod Lines
+pub mod Changes
