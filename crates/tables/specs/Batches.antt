@@ -1,5 +1,5 @@
 -- Publications whose records are to be written together.
-use Rattle.std.specs.Prelude.{◌≡◌, ℕ, List, [], ◌∷◌, length, Option, Some, None}
+use Rattle.std.specs.Prelude.{◌≡◌, ℕ, List, [], length, Option, Some, None}
 use Rattle.journal.specs.declared.piece.Piece.{Piece}
 use Rattle.journal.specs.Format.{Entry, IsBatch}
 use Rattle.journal.specs.Pieces.{piece_bytes}

@@ -2,6 +2,7 @@
 #![tactic(auto)]
 
 mod batch;
+mod laws;
 mod mark;
 mod opening;
 mod publish;
@@ -14,6 +15,7 @@ mod turn;
 mod work;
 
 pub use batch::Publication;
+pub use laws::a_record_stands_for_its_artifact;
 pub use opening::Opening;
 pub use publish::Publish;
 pub use shelf::Shelf;

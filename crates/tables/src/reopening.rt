@@ -1,6 +1,10 @@
 //! What was published before, read back into rounds.
-ghost use Rattle.std.specs.Prelude.{◌≡◌, ◌≤◌, ◌+◌, ◌*◌, ◌^◌, ◌<◌, ℕ, true, false, length, IfOk, OnOk};
-ghost use Rattle.journal.specs.Readings.{reading_scan, IsReading, IsGoing, HasEnded};
+ghost use Rattle.std.specs.Prelude.{◌≡◌, ◌≤◌, ◌+◌, ◌*◌, ◌^◌, ◌<◌, ℕ, [], Some, true, false, length, IfOk, OnOk};
+ghost use Rattle.journal.specs.declared.digests.Digests.{Digests as Digested};
+ghost use Rattle.journal.specs.Readings.{reading_disk, reading_scan, IsReading, IsGoing, HasEnded};
+ghost use Rattle.journal.specs.Scans.{HasRead};
+ghost use Rattle.journal.specs.Steps.{entry_of};
+ghost use Rattle.tables.specs.Replays.{artifact_in, Takes, IsReadBack};
 ghost use Rattle.tables.specs.Sound.{Spaced, BeginsNext};
 
 use crate::mark::is_mark;
@@ -19,7 +23,9 @@ fn artifact_of(
     task: u32,
     body: Vec<u8>,
     at: u64,
-) -> Result<Vec<u8>, OpenFault> {
+) -> Result<Vec<u8>, OpenFault>
+    ensures { IfOk result (λ artifact. artifact_in shelf.now round task body.items ≡ Some artifact.items) }
+{
     if !is_mark(&body) {
         return Ok(body);
     }
@@ -48,7 +54,8 @@ fn take<W: Work>(
     kept: Kept,
 ) -> Result<(), OpenFault>
     requires { 13 * rounds.old.machine.round ≤ 2 ^ 31 }
-    ensures { (at : ℕ) → Spaced rounds.old.machine at → OnOk result (Spaced rounds.new.machine (at + 13)) }
+    ensures spaced { (at : ℕ) → Spaced rounds.old.machine at → OnOk result (Spaced rounds.new.machine (at + 13)) }
+    ensures takes { OnOk result (Takes (entry_of kept) rounds.old rounds.new) }
 {
     let Kept {
         round,
@@ -83,6 +90,8 @@ pub(crate) fn read_back<D: Disk, W: Work>(
     ensures reading { IsReading D.told D.seen D.may_leave reading.new }
     ensures ended { OnOk result (HasEnded reading.new) }
     ensures spaced { IfOk result (λ rounds. Spaced rounds.machine (reading_scan reading.new).at) }
+    ensures read { D.told ≡ true → (digests : Digested) → HasRead digests [] (reading_scan reading.old) (D.seen (reading_disk reading.old)) →
+        IfOk result (λ rounds. IsReadBack D.told D.may_leave digests (D.seen (reading_disk reading.old)) reading.new rounds) }
 {
     let first = work.plan(alloc, 0, &Shelf::new(alloc))?;
     let mut rounds = Rounds::new(alloc, first)?;

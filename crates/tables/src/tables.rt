@@ -51,6 +51,7 @@ impl<D: Disk, W: Work> Tables<D, W> {
     ghost use Rattle.journal.specs.Journals.{journal_disk, journal_gate};
     ghost use Rattle.journal.specs.Pieces.{piece_bytes};
     ghost use Rattle.journal.specs.Settling.{ArePlain};
+    ghost use Rattle.tables.specs.Replays.{IsReplayed};
     ghost use Rattle.tables.specs.Rounds.{Follows, claims_of, abandons_of, expires_of};
     ghost use Rattle.tables.specs.Shelves.{artifact_at};
     ghost use Rattle.tables.specs.Sound.{IsSound, machine_of, shelf_of, events_of, journal_of, is_repeated, record_body, record_size, StopsAt, Publishes, FollowsRound};
@@ -71,6 +72,9 @@ impl<D: Disk, W: Work> Tables<D, W> {
         ensures disk { IfOk result (λ t. t.opening.disk.value ≡ disk) }
         ensures term { IfOk result (λ t. t.opening.term ≡ term) }
         ensures digests { IfOk result (λ t. t.opening.digests ≡ digests.now) }
+
+        // The tables hold what the records of the image lead to, in order, and each crash leaves those records.
+        ensures replayed { D.told ≡ true → IfOk result (λ t. IsReplayed D.told D.may_leave digests.now (D.seen disk) t) }
     {
         let opening = Opening {
             digests: *digests,

@@ -6,8 +6,8 @@ use Rattle.tables.proofs.Spacing.{spaced_record, spaced_follows}
 use Rattle.tables.proofs.reopening.take.Goals as goal
 use Rattle.tables.proofs.reopening.take.Goals.{then-begins_next+in_ok-next+in_ok-advance, else-begins_next}
 
-pub returns : goal.returns
-returns g c = λ at spaced.
+pub returns-clause-spaced : goal.returns-clause-spaced
+returns-clause-spaced g c = λ at spaced.
     let before = c.if-begins_next.rounds in
     let here : Spaced before.machine at = elim c.if-begins_next.branch [
       | then-begins_next+in_ok-next+in_ok-advance w ↦
