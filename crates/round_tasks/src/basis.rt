@@ -1,5 +1,8 @@
 // What a round reads of those before it, made once for all its tasks.
 
+ghost use Rattle.std.specs.Prelude.{◌≡◌};
+ghost use Rattle.round_tasks.specs.Tasks.{past_stands, stands_in};
+
 use crate::tops::top;
 use core_ir::{Artifact, Constraint, CoreProgram};
 use fn_summary::Phase;
@@ -116,7 +119,9 @@ impl Past {
     }
 
     /// Whether a function has the summary of the round before again.
-    pub(crate) fn stands(&self, f: u32) -> bool {
+    pub(crate) fn stands(&self, f: u32) -> bool
+        ensures { result ≡ past_stands self.now f }
+    {
         self.stands.get(f as usize).copied().unwrap_or(false)
     }
 }
@@ -202,11 +207,15 @@ impl Basis {
     }
 
     /// Whether a task has the artifact of the round before again.
-    pub(crate) fn stands(&self, task: u32) -> bool {
+    pub(crate) fn stands(&self, task: u32) -> bool
+        ensures { result ≡ stands_in self.now task }
+    {
         match self {
-            Basis::Summaries(past, _, _) => past.stands(task),
-            Basis::Closing(past) => past.stands(task),
-            _ => false,
+            Basis::Summaries(past, _, _) => return past.stands(task),
+            Basis::Closing(past) => return past.stands(task),
+            Basis::Constraints | Basis::Solution(_) | Basis::Clusters | Basis::Colours(_, _) => {
+                return false;
+            }
         }
     }
 

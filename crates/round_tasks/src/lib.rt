@@ -3,6 +3,7 @@
 #![tactic(auto)]
 
 mod alone;
+mod analysed;
 mod analysis;
 mod basis;
 mod contexts;
@@ -12,7 +13,7 @@ mod tasks;
 mod tops;
 
 pub use alone::{Alone, colours_alone};
-pub use analysis::Analysis;
+pub use analysed::Analysis;
 pub use basis::{Basis, Past};
 pub use standing::is_mark;
 pub use tasks::Task;
