@@ -20,6 +20,7 @@ th, td { border: 1px solid #999; padding: 0 .6em; text-align: left; }
 .unreachable { background: #d8d8d8; }
 .reviewed { outline-style: dashed; }
 .site:target { outline: 3px solid #00f; }
+a.site { scroll-margin: 8em 2em; }
 @media print { body { margin: 0; } .source { overflow: visible; } .line { white-space: pre-wrap; } .site { border: 1px solid #000; } }
 </style>
 </head>
@@ -34,10 +35,10 @@ remark. A link on an orange or red access leads to the next one; the keys n and 
 /// What ends a page: the keys that walk the orange and red sites.
 pub(crate) const TAIL: &str = "\
 <script>
-var at = 0;
 document.addEventListener(\"keydown\", function (event) {
   var count = document.querySelectorAll(\"a.site\").length;
-  if (count === 0) { return; }
+  var at = Number(location.hash.slice(2)) || 0;
+  if (count === 0 || event.ctrlKey || event.altKey || event.metaKey) { return; }
   if (event.key === \"n\") { at = at % count + 1; } else if (event.key === \"p\") { at = at > 1 ? at - 1 : count; } else { return; }
   location.hash = \"a\" + at;
 });

@@ -1,5 +1,6 @@
 use crate::escape::push_html;
 use crate::head::{HEAD, TAIL};
+use crate::listing::push_listing;
 use crate::marks::Walk;
 use crate::order::{Placed, between, end_of_file, places_of};
 use crate::source::{push_source, push_without_source};
@@ -9,8 +10,8 @@ use report_view::{Report, Site, Sources, is_alarm};
 use std::alloc::Global;
 use sv_base::NoMemory;
 
-/// A page of HTML: the totals, a table of the functions, and the sources with each site marked. Sites of a file whose
-/// source is not given are listed.
+/// A page of HTML: the totals, a table of the functions, a list of the sites that want a look, and the sources with each
+/// site marked. Sites of a file whose source is not given are listed in its place.
 pub fn html_text(
     alloc: Global,
     report: &Report,
@@ -23,10 +24,11 @@ pub fn html_text(
     push_assumed(&mut text, &report.assumed)?;
     push_summary(alloc, &mut text, sites)?;
     let places = places_of(alloc, sites)?;
-    let mut walk = Walk {
-        count: alarms(sites),
-        done: 0,
-    };
+    let count = alarms(sites);
+    if count > 0 {
+        push_listing(&mut text, &places, sites)?;
+    }
+    let mut walk = Walk { count, done: 0 };
     push_files(&mut text, &mut walk, &places, sites, sources)?;
     text.extend_from_slice(TAIL.as_bytes())?;
     Ok(text)

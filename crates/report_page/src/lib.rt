@@ -4,6 +4,7 @@
 mod escape;
 mod head;
 mod html;
+mod listing;
 mod marks;
 mod order;
 mod source;

@@ -80,6 +80,7 @@ fn push_line(
 ) -> Result<(), NoMemory> {
     let mut digits = Buffer::new();
     let digits = digits.format(number).as_bytes();
+    let line = line.strip_suffix(b"\r").unwrap_or(line);
     push_pieces(text, &[b"<span class=\"line\"><b>", digits, b"</b>"])?;
     let mut done = 0usize;
     for place in places {

@@ -45,6 +45,7 @@ fn message(alloc: Global, site: &Site) -> Result<Value, AllocError> {
     };
     let mut whole = String::from_str(alloc, text)?;
     whole.push_str(function.as_str())?;
+    whole.push_str(".")?;
     json!(in alloc; {"text": whole.as_str()})
 }
 
@@ -58,12 +59,16 @@ fn location(alloc: Global, site: &Site) -> Result<Value, AllocError> {
     json!(in alloc; {"physicalLocation": physical, "logicalLocations": [logical]})
 }
 
-/// The place and the text of the line; lines and columns count from 1 (section 3.30).
+/// The place and the text of the line; lines and columns count from 1 (section 3.30). A report counts columns in bytes and
+/// the log in characters, so a line that is not of ASCII has no column.
 fn region(alloc: Global, site: &Site) -> Result<Value, AllocError> {
     let line = site.line.line.max(1);
     let col = site.line.col.max(1);
     let text = text_of(alloc, site.text)?;
     let snippet = json!(in alloc; {"text": text.as_str()})?;
+    if !site.text.is_ascii() {
+        return json!(in alloc; {"startLine": line, "snippet": snippet});
+    }
     json!(in alloc; {"startLine": line, "startColumn": col, "snippet": snippet})
 }
 
