@@ -32,6 +32,7 @@ use Rattle.core_ir.specs.contracts.steps.Step as StepOf
 use Rattle.core_ir.specs.contracts.steps.Step.TheKnot as StepKnot
 use Rattle.core_ir.specs.contracts.steps.Value as ValueOf
 use Rattle.round_plan.specs.contracts.plan.Plan as PlanOf
+use Rattle.round_tasks.specs.contracts.analysed.Analysis as AnalysisOf
 
 option_sync : (R : RattleType) → IsSync R → IsSync (OptionOf.the_row R)
 option_sync R s = search sendable depth 40
@@ -100,22 +101,49 @@ boxed R s = as_row_sync (row_field (BoxOf.the_row R GlobalOf.the_row HeapOf.ghos
 
 -- ---- steps, variant by variant
 step_layer : Syncs StepOf.the_ring StepOf.the_member
-step_layer = record { sync = λ h all. let R = h StepOf.the_member in let steps = list R (all StepOf.the_member) in
-    variants_sync (StepKnot.type-Step R R R R)
-      ((number, (value, tt)),
-      ((number, (number, (operand, (signed, tt)))),
-      ((site, (number, (wide, tt))),
-      ((number, (number, (number, tt))),
-      ((number, (number, (leaf, (flag, tt)))),
-      ((number, (operand, (leaf, tt))),
-      ((number, (number, (number, tt))),
-      ((number, (flag, tt)),
-      ((maybe, (callee, (operands, tt))),
-      ((condition, (steps, (steps, tt))),
-      ((steps, tt),
-      ((steps, tt),
-      ((number, tt),
-      ((returned, tt), tt)))))))))))))) }
+step_layer = record {
+  sync = λ h all. let R = h StepOf.the_member in let steps = list R (all StepOf.the_member) in
+      variants_sync (StepKnot.type-Step R R R R) (
+        (number, (value, tt)),
+        (
+          (number, (number, (operand, (signed, tt)))),
+          (
+            (site, (number, (wide, tt))),
+            (
+              (number, (number, (number, tt))),
+              (
+                (number, (number, (leaf, (flag, tt)))),
+                (
+                  (number, (operand, (leaf, tt))),
+                  (
+                    (number, (number, (number, tt))),
+                    (
+                      (number, (flag, tt)),
+                      (
+                        (maybe, (callee, (operands, tt))),
+                        (
+                          (condition, (steps, (steps, tt))),
+                          (
+                            (steps, tt),
+                            (
+                              (steps, tt),
+                              (
+                                (number, tt),
+                                ((returned, tt), tt),
+                              ),
+                            ),
+                          ),
+                        ),
+                      ),
+                    ),
+                  ),
+                ),
+              ),
+            ),
+          ),
+        ),
+      );
+}
 
 step_holes : (i : StepKnot.the_members) → IsSync (holes StepOf.the_ring i)
 step_holes = fix_sync StepOf.the_ring (StepOf.by_members (Syncs StepOf.the_ring) step_layer)
@@ -125,15 +153,22 @@ step_sync = record { shared = λ d. subst (λ s. (b o : ℕ) → Common (s b o))
 
 -- ---- shapes and their forms
 form_layer : Syncs FormOf.the_ring FormOf.the_member
-form_layer = record { sync = λ h all. let R = h ShapeOf.the_member in let s = all ShapeOf.the_member in
-    variants_sync (FormKnot.type-ShapeForm R R)
-      ((leaf, (number, tt)),
-      ((wide, (wide, (boxed R s, tt))),
-      ((flag, (list (Tuple (u64 ∷ R ∷ [])) (pair_sync R s), tt)), tt))) }
+form_layer = record {
+  sync = λ h all. let R = h ShapeOf.the_member in let s = all ShapeOf.the_member in
+      variants_sync (FormKnot.type-ShapeForm R R) (
+        (leaf, (number, tt)),
+        (
+          (wide, (wide, (boxed R s, tt))),
+          ((flag, (list (Tuple (u64 ∷ R ∷ [])) (pair_sync R s), tt)), tt),
+        ),
+      );
+}
 
 shape_layer : Syncs FormOf.the_ring ShapeOf.the_member
-shape_layer = record { sync = λ h all. let R = h FormOf.the_member in
-    declared_sync (FormKnot.type-Shape R) (number, (maybe, (as_row_sync (row_field R) (all FormOf.the_member), tt))) }
+shape_layer = record {
+  sync = λ h all. let R = h FormOf.the_member in
+      declared_sync (FormKnot.type-Shape R) (number, (maybe, (as_row_sync (row_field R) (all FormOf.the_member), tt)));
+}
 
 shape_holes : (i : FormKnot.the_members) → IsSync (holes FormOf.the_ring i)
 shape_holes = fix_sync FormOf.the_ring (FormOf.by_members (Syncs FormOf.the_ring) form_layer shape_layer)
@@ -148,5 +183,9 @@ function_sync = search (sendable, crosses, step_sync) depth 40 fits 20000
 pub program_sync : IsSync ProgramOf.the_row
 program_sync = search (sendable, crosses, function_sync, shape_sync) depth 40 fits 20000
 
+-- ---- plans
+analysis_sync : IsSync AnalysisOf.the_row
+analysis_sync = declared_sync AnalysisOf.the_type (program_sync, (search sendable, (search sendable, tt)))
+
 pub plan_sync : IsSync PlanOf.the_row
-plan_sync = search (sendable, program_sync) depth 40 fits 20000
+plan_sync = declared_sync PlanOf.the_type (analysis_sync, tt)
