@@ -1,0 +1,81 @@
+ghost use Rattle.std.specs.Prelude.{◌≡◌, ◌≢◌, IfOk, IfErr, OnOk};
+ghost use Rattle.sv_outside.specs.Outside.{counted};
+ghost use Rattle.tables.specs.Sound.{IsSound};
+ghost use Rattle.survey_check.specs.Texts.{IsRefusalLine};
+ghost use Rattle.survey_check.specs.computed.Endings.{IsUnopened, IsStopped, status_number};
+
+use crate::texts::{damaged, full, not_a_database, of_another_source};
+use crate::{Ending, Prepared};
+use journal::OpenFault;
+use round_plan::Plan;
+use std::alloc::Global;
+use sv_base::{DiskFailed, NoMemory};
+use sv_outside::Disks;
+use tables::{Stop, Tables};
+
+/// How long a worker may hold a task before others may take it, in units of the clock.
+const TERM: u64 = 60_000;
+
+// The line that refuses a database, or want of memory for it.
+fn refused(line: Result<Vec<u8>, NoMemory>) -> Ending
+    requires { IfOk line (λ l. IsRefusalLine l.items) }
+    ensures { IsUnopened result }
+{
+    match line {
+        Ok(line) => Ending::Refused(line),
+        Err(NoMemory) => Ending::Plain(survey::Ending::NoMemory),
+    }
+}
+
+// How a call ends whose database is not opened.
+fn unopened(alloc: Global, fault: OpenFault) -> Ending
+    ensures { IsUnopened result }
+{
+    match fault {
+        OpenFault::Disk => Ending::DiskFailed,
+        OpenFault::NotDatabase => refused(not_a_database(alloc)),
+        OpenFault::OtherSource { stored, wanted } => {
+            refused(of_another_source(alloc, stored.as_slice(), wanted.as_slice()))
+        }
+        OpenFault::Damaged { at } => refused(damaged(alloc, at)),
+        OpenFault::NoMemory => Ending::Plain(survey::Ending::NoMemory),
+    }
+}
+
+/// How a call ends whose rounds are not all computed.
+pub(crate) fn stopped(alloc: Global, stop: Stop) -> Ending
+    ensures { IsStopped result }
+{
+    match stop {
+        Stop::Disk => Ending::DiskFailed,
+        Stop::NoMemory => Ending::Plain(survey::Ending::NoMemory),
+        Stop::Full { size } => match full(alloc, size) {
+            Ok(line) => Ending::Full(line),
+            Err(NoMemory) => Ending::Plain(survey::Ending::NoMemory),
+        },
+    }
+}
+
+/// Opens the database of that name. A refusal hands the disk back, where there is one.
+pub fn open_tables<M: Disks>(
+    alloc: Global,
+    disks: &mut M,
+    path: &str,
+    prepared: &Prepared,
+) -> Result<Tables<M::D, Plan>, (Option<M::D>, Ending)>
+    ensures sound { IfOk result (λ t. IsSound M.D.told M.D.seen t) }
+    ensures work { IfOk result (λ t. t.opening.work.value ≡ prepared.now.plan) }
+    ensures opened { OnOk result (M.faults disks.new ≡ M.faults disks.old) }
+    ensures refused { IfErr result (λ r. IsUnopened r.1) }
+    ensures all_opened { IfErr result (λ r. status_number r.1 ≢ 5 → M.faults disks.new ≡ M.faults disks.old) }
+    ensures counted { M.calls disks.new ≡ counted (M.calls disks.old) }
+{
+    let disk = match disks.open(path) {
+        Ok(disk) => disk,
+        Err(DiskFailed) => return Err((None, Ending::DiskFailed)),
+    };
+    match Tables::open(alloc, disk, &prepared.plan, &prepared.digests, TERM) {
+        Ok(tables) => Ok(tables),
+        Err((disk, fault)) => Err((Some(disk), unopened(alloc, fault))),
+    }
+}
