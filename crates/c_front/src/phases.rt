@@ -5,10 +5,15 @@ use c_lower::lower;
 use c_parser::parse;
 use c_tree::Tree;
 use c_typed::Typed;
+use core_fits::fits;
+use core_ir::CoreProgram;
 use known_calls::redirect;
 use std::alloc::Global;
 use sv_base::limits::{FUNCTIONS, TOKENS};
 use sv_base::{FaultKind, FileId, FrontFault, Names, NamesFull, Place, SourceFault, faults};
+
+// The fault of a program that does not fit.
+const NOT_BUILT: FaultKind = FaultKind::Unsupported(0);
 
 /// A fault of a file as a whole.
 fn of_file(kind: FaultKind, file: FileId) -> FrontFault {
@@ -76,6 +81,15 @@ fn functions_fault(typed: &Typed) -> Option<SourceFault> {
     })
 }
 
+/// A program that fits, as the analysis asks for. That lowering gives no other one is only tested.
+fn fitting(alloc: Global, core: CoreProgram) -> Result<CoreProgram, FrontFault> {
+    if fits(alloc, &core)? {
+        Ok(core)
+    } else {
+        Err(of_file(NOT_BUILT, FileId(0)))
+    }
+}
+
 /// The program of the files, or the first fault in them. Each file is lexed and parsed, then they are checked, linked and
 /// lowered; `entry` has the names of the functions that the environment calls, separated by commas. `names` gets the names
 /// of the files, and those that their directives set.
@@ -93,7 +107,7 @@ pub fn front(
     if let Some(fault) = functions_fault(&typed) {
         return Err(FrontFault::Fault(fault));
     }
-    let core = lower(alloc, &typed)?;
+    let core = fitting(alloc, lower(alloc, &typed)?)?;
     Ok(Program {
         typed,
         core,
