@@ -9,8 +9,8 @@ returns c =
     let functions = c.args.core.now.functions in
     let sites = c.args.core.now.sites in
     λ yes. sites_fit function_of functions.items sites.items
-        (ap (λ n. sites_below n sites.items) (sym functions.ok.0)
-        ∙ ap (sites_below functions.len) (sym c.deref.ensures.value)
-        ∙ ap (λ n. sites_below n c.deref.result.now) (sym c.len.ensures)
-        ∙ sym c.are_sites.ensures
-        ∙ yes)
+    (ap (λ n. sites_below n sites.items) (sym functions.ok.0)
+    ∙ ap (sites_below functions.len) (sym c.deref.ensures.value)
+    ∙ ap (λ n. sites_below n c.deref.result.now) (sym c.len.ensures)
+    ∙ sym c.are_sites.ensures
+    ∙ yes)
