@@ -1,4 +1,4 @@
-use Rattle.std.proofs.Common.{IsTrue, subst}
+use Rattle.std.proofs.Common.{subst}
 use Rattle.core_ir.specs.Programs.{function_of}
 use Rattle.core_ir.specs.StepsFit.{IntegerIn}
 use Rattle.c_values.specs.declared.int_type.IntType.TheVariants as types
