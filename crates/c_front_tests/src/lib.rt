@@ -1,6 +1,6 @@
 //! Tests of the front end as a whole: expressions with the types, conversions and sites that they get, types with their sizes and
-//! likeness, the steps that statements become, and how deep steps and objects may stand inside one another. The tables come from a
-//! second implementation.
+//! likeness, the steps that statements become, programs that do not fit, and how deep steps and objects may stand inside one another.
+//! The tables come from a second implementation.
 #![tactic(auto)]
 
 #[cfg(test)]
@@ -13,6 +13,8 @@ mod deep_steps;
 mod expression_rows;
 #[cfg(test)]
 mod expressions;
+#[cfg(test)]
+mod fitting;
 #[cfg(test)]
 mod programs;
 #[cfg(test)]
