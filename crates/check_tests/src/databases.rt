@@ -138,8 +138,11 @@ fn an_image_byte_for_byte(rt: HostRuntime) -> Result<(), Fail> {
     let wanted = finished(alloc)?;
     assert!(rt; goes_on(alloc, &[], &wanted)?);
     assert!(rt; goes_on(alloc, &wanted, &wanted)?);
+    let Some(digest) = wanted.get(8..40) else {
+        return Err("no digest")?;
+    };
     let mut current = [0; 32];
-    current.copy_from_slice(&wanted[8..40]);
+    current.copy_from_slice(digest);
     let digests = Digests { current, old: None };
     let records = look(alloc, &mut SureDisk::new(alloc, wanted)?, &digests).map_err(
         |_| "no database",

@@ -48,7 +48,7 @@ enum Command {
     Other,
 }
 
-fn command(words: &[String]) -> Command {
+fn command_of(words: &[String]) -> Command {
     match words.get(1) {
         Some(word) if word.as_str() == "check" => Command::Check,
         Some(word) if word.as_str() == "trial" => Command::Trial,
@@ -64,7 +64,7 @@ fn run<R: Threads + Wait + Sync>(rt: &HostRuntime, threads: &R, words: &[String]
     let mut out = HostSink::stdout(rt);
     let mut err = HostSink::stderr(rt);
     let mut disks = HostDisks::new(rt, alloc);
-    match command(words) {
+    match command_of(words) {
         Command::Check => {
             let clock = HostClock::new(rt);
             survey(
