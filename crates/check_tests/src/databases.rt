@@ -148,9 +148,13 @@ fn an_image_byte_for_byte(rt: HostRuntime) -> Result<(), Fail> {
         |_| "no database",
     )?;
     assert_eq!(rt; records.len(), 11);
-    for round in 5..10 {
-        assert_eq!(rt; records[round].round as usize, round);
-        assert_eq!(rt; records[round + 1].at, records[round].at + 14);
+    for round in 5..10usize {
+        let (Some(record), Some(next)) = (records.get(round), records.get(round.saturating_add(1)))
+        else {
+            return Err("a round without a record")?;
+        };
+        assert_eq!(rt; record.round as usize, round);
+        assert_eq!(rt; next.at, record.at.saturating_add(14));
     }
     Ok(())
 }
