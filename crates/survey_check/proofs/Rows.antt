@@ -1,17 +1,17 @@
 -- Each status has its cause, by how the call ended.
-use Rattle.std.proofs.Common.{◌≡◌, ◌≢◌, ◌⊎◌, ℕ, zero, suc, ◌<◌, ◌≤◌, Bool, true, false, cond, List, [], ◌∷◌, Option, Some, None, refl, sym, ap, ◌∙◌, subst, inl, inr, arith}
+use Rattle.std.proofs.Common.{◌≡◌, ◌≢◌, ◌⊎◌, ℕ, zero, suc, ◌<◌, ◌≤◌, Bool, true, false, cond, List, Option, Some, None, refl, sym, subst, inl, inr, arith}
 use Rattle.std.specs.List.{list_any}
 use Rattle.sv_outside.specs.Outside.{Files, Rose, counted}
 use Rattle.report.specs.declared.line.Line.{Line}
 use Rattle.report.specs.Report.{is_alarm, report_status}
 use Rattle.survey.specs.Words.{Asked}
-use Rattle.survey.specs.Outcome.{IsReport, IsReported}
+use Rattle.survey.specs.Outcome.{IsReported}
 use Rattle.survey.specs.computed.Endings.{Stopped, IsRefusal}
 use Rattle.survey.specs.declared.ending.Ending.{Ending as PlainEnding}
 use Rattle.survey.specs.declared.ending.Ending.TheVariants as plain
 use Rattle.survey_check.specs.Words.{Wanted, Made, files_of}
 use Rattle.survey_check.specs.Outcome.{IsTrial, Totals, Puts, PutsFront, Opens, UnreadAs, NothingUnread, Complains}
-use Rattle.survey_check.specs.computed.Endings.{Counts, Accepted, Clean, Quiet, Unopened, Opened, Ends, IsUnopened, IsStopped, PutAs, Concludes, status_number, told_text}
+use Rattle.survey_check.specs.computed.Endings.{Counts, Accepted, Ends, IsUnopened, IsStopped, PutAs, Concludes, status_number, told_text}
 use Rattle.survey_check.specs.declared.ending.Ending.{Ending}
 use Rattle.survey_check.specs.declared.ending.Ending.TheVariants as endings
 
@@ -318,6 +318,18 @@ module _ {A : Type 0} {Texts : List ℕ → ℕ → Type 0} {Unread : List ℕ �
   all_opened endings.DiskFailed h five = absurd (five refl)
   all_opened (endings.Refused line) h five = h.ends.4.opened
   all_opened (endings.Full line) h five = h.ends.4.opened
+
+  -- status 5 is that of a disk alone
+  pub disk_failed : (e : Ending) → Ends e Texts Unread asked before now c → status_number e ≡ 5 → e ≡ endings.DiskFailed
+  disk_failed (endings.Plain (plain.Reported answer)) h five = let small = h.ends.1 in absurd (omega arith)
+  disk_failed (endings.Plain plain.NotWritten) h five = absurd (omega arith)
+  disk_failed (endings.Plain (plain.Refused line)) h five = absurd (omega arith)
+  disk_failed (endings.Plain (plain.CannotRead text)) h five = absurd (omega arith)
+  disk_failed (endings.Plain plain.NoMemory) h five = absurd (omega arith)
+  disk_failed (endings.Plain plain.Usage) h five = absurd (omega arith)
+  disk_failed endings.DiskFailed h five = refl
+  disk_failed (endings.Refused line) h five = absurd (omega arith)
+  disk_failed (endings.Full line) h five = absurd (omega arith)
 
   pub opens : (e : Ending) → Ends e Texts Unread asked before now c → Opens (status_number e) c.opens_before c.opens_now
   opens (endings.Plain (plain.Reported answer)) h = opens_one answer h.ends.4.opens (let small = h.ends.1 in inl (omega arith))

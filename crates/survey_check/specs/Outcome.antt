@@ -1,7 +1,7 @@
 -- What the top calls over a database promise. Here `asked` is what the words ask for, `before` and `now` what a sink tells that it
 -- has taken, and `Text` which texts are put with which status.
 use Rattle.std.specs.Prelude.{◌≡◌, ◌⊎◌, ℕ, ◌≤◌, List, [], ◌++◌, length, take, Option, Some, None}
-use Rattle.sv_outside.specs.Outside.{counted, with_more}
+use Rattle.sv_outside.specs.Outside.{Rose, counted, with_more}
 use Rattle.report.specs.declared.line.Line.{Line}
 use Rattle.report.specs.Report.{totals_text, report_status}
 use Rattle.survey.specs.Words.{Asked}
@@ -40,6 +40,11 @@ pub record Opens (answer before now : ℕ) : Type 0 where
   pub none : (answer ≡ 2) ⊎ ((answer ≡ 3) ⊎ (answer ≡ 4)) → now ≡ before
   pub one : (answer ≡ 0) ⊎ ((answer ≡ 1) ⊎ ((answer ≡ 5) ⊎ ((answer ≡ 6) ⊎ ((answer ≡ 7) ⊎ (answer ≡ 9))))) → now ≡ counted before
   pub most : (now ≡ before) ⊎ (now ≡ counted before)
+
+-- a disk was opened, and has counted a fault since, by its count as it was opened
+abbrev pub HasFault : {D : Type 0} → (D → ℕ) → ℕ → Option D → Type 0
+HasFault faults opened None = ⊥
+HasFault faults opened (Some disk) = Rose opened (faults disk)
 
 -- the texts that tell of the last load, which failed
 abbrev pub UnreadAs : Option Asked → ℕ → ℕ → List ℕ → Type 0

@@ -1,5 +1,5 @@
 -- The texts that are told of a database, and of a trial.
-use Rattle.std.specs.Prelude.{◌≡◌, ◌⊎◌, ℕ, List, ◌++◌, codes, decimal}
+use Rattle.std.specs.Prelude.{◌≡◌, ◌⊎◌, ◌<◌, ◌^◌, ℕ, List, ◌++◌, codes, decimal}
 use Rattle.hex.specs.Hex.{encode_lower}
 
 abbrev pub disk_failed_text : List ℕ
@@ -26,9 +26,9 @@ IsRefusalLine text =
     (text ≡ not_database_text)
     ⊎ (((stored : List ℕ) × (wanted : List ℕ) × (text ≡ other_source_text stored wanted)) ⊎ ((at : ℕ) × (text ≡ damaged_text at)))
 
--- the line that says how long a database would become
+-- the line that says how long a database would become, which is longer than 2,147,483,648 bytes
 abbrev pub IsFullLine : List ℕ → Type 0
-IsFullLine text = (size : ℕ) × (text ≡ full_text size)
+IsFullLine text = (size : ℕ) × (2 ^ 31 < size) × (text ≡ full_text size)
 
 -- what stands before the totals of a trial
 unfoldable pub trial_words : ℕ → ℕ → List ℕ

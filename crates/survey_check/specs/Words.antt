@@ -1,5 +1,5 @@
 -- What the command lines over a database ask for.
-use Rattle.std.specs.Prelude.{ℕ, Bool, true, false, ◌&&◌, if◌then◌else◌, List, map, Option, Some, None, is_none, option_and_then, option_map, string_bytes}
+use Rattle.std.specs.Prelude.{ℕ, Bool, true, false, ◌&&◌, if◌then◌else◌, List, [], Option, Some, None, is_none, option_and_then, option_map}
 use Rattle.cli_words.specs.Settings.{Read, settings_of}
 use Rattle.cli_words.specs.declared.options.Command.{Command}
 use Rattle.cli_words.specs.declared.options.Command.TheVariants as commands
@@ -54,3 +54,8 @@ trial_of words = option_and_then made_in (settings_of words)
 
 abbrev pub files_of : Option Wanted → Option Asked
 files_of wanted = option_map (λ w. w.asked) wanted
+
+-- the name of the database, empty where the words are not accepted
+abbrev pub path_of : Option Wanted → List ℕ
+path_of (Some wanted) = wanted.path
+path_of None = []

@@ -1,10 +1,12 @@
-ghost use Rattle.std.specs.Prelude.{◌≡◌, ◌≤◌, ◌++◌, map, Some, None, IfOk};
+ghost use Rattle.std.specs.Prelude.{◌≡◌, ◌≢◌, ◌≤◌, ◌++◌, map, Some, None, IfOk};
 ghost use Rattle.report.specs.Report.{report_text, totals_text, report_status};
+ghost use Rattle.sv_outside.specs.Outside.{Rose};
+ghost use Rattle.journal.specs.Journals.{journal_disk};
 ghost use Rattle.survey.specs.Outcome.{IsReport};
 ghost use Rattle.survey_check.specs.Texts.{trial_words};
 ghost use Rattle.survey_check.specs.Outcome.{IsTrial};
 ghost use Rattle.survey_check.specs.computed.Endings.{Text, PutAs, Concludes};
-ghost use Rattle.tables.specs.Sound.{IsSound};
+ghost use Rattle.tables.specs.Sound.{IsSound, journal_of};
 
 use crate::opening::stopped;
 use crate::request::Trial;
@@ -72,7 +74,8 @@ fn text_of<D: Disk>(
 
 // Puts the report.
 fn put_text<K: Sink>(text: &[u8], status: u8, out: &mut K) -> Ending
-    ensures { PutAs result text.now status (K.taken out.old) (K.taken out.new) (K.faults out.old) (K.faults out.new) }
+    ensures put { PutAs result text.now status (K.taken out.old) (K.taken out.new) (K.faults out.old) (K.faults out.new) }
+    ensures other { result ≢ Ending.DiskFailed }
 {
     match out.put(text) {
         Put::Ok => return Ending::Plain(survey::Ending::Reported(status)),
@@ -89,7 +92,8 @@ fn put_report<D: Disk, K: Sink>(
     trial: Option<Trial>,
     out: &mut K,
 ) -> Ending
-    ensures { Concludes result (Text trial) (K.taken out.old) (K.taken out.new) (K.faults out.old) (K.faults out.new) }
+    ensures ends { Concludes result (Text trial) (K.taken out.old) (K.taken out.new) (K.faults out.old) (K.faults out.new) }
+    ensures other { result ≢ Ending.DiskFailed }
 {
     match text_of(alloc, prepared, tables, trial) {
         Ok((text, status)) => return put_text(&text, status, out),
@@ -105,9 +109,10 @@ fn finish_and_put<D: Disk, K: Sink>(
     trial: Option<Trial>,
     out: &mut K,
 ) -> Ending
-    requires sound { IsSound D.told D.seen tables.old }
+    requires sound { IsSound D.told D.seen D.faults tables.old }
     requires work { tables.old.opening.work.value ≡ prepared.now.plan }
-    ensures { Concludes result (Text trial) (K.taken out.old) (K.taken out.new) (K.faults out.old) (K.faults out.new) }
+    ensures ends { Concludes result (Text trial) (K.taken out.old) (K.taken out.new) (K.faults out.old) (K.faults out.new) }
+    ensures failed { result ≡ Ending.DiskFailed → Rose (D.faults tables.old.opening.disk.value) (D.faults (journal_disk (journal_of tables.new))) }
 {
     match finish(alloc, tables, &prepared.plan) {
         Ok(()) => return put_report(alloc, prepared, tables, trial, out),
@@ -126,9 +131,10 @@ pub(crate) fn conclude_as<D: Disk, K: Sink>(
     trial: Option<Trial>,
     out: &mut K,
 ) -> (D, Ending)
-    requires sound { IsSound D.told D.seen tables }
+    requires sound { IsSound D.told D.seen D.faults tables }
     requires work { tables.opening.work.value ≡ prepared.now.plan }
-    ensures { Concludes result.1 (Text trial) (K.taken out.old) (K.taken out.new) (K.faults out.old) (K.faults out.new) }
+    ensures ends { Concludes result.1 (Text trial) (K.taken out.old) (K.taken out.new) (K.faults out.old) (K.faults out.new) }
+    ensures failed { result.1 ≡ Ending.DiskFailed → Rose (D.faults tables.opening.disk.value) (D.faults result.0) }
 {
     let mut tables = tables;
     let ending = finish_and_put(alloc, prepared, &mut tables, trial, out);
@@ -142,9 +148,10 @@ pub fn conclude<D: Disk, K: Sink>(
     tables: Tables<D, Plan>,
     out: &mut K,
 ) -> (D, Ending)
-    requires sound { IsSound D.told D.seen tables }
+    requires sound { IsSound D.told D.seen D.faults tables }
     requires work { tables.opening.work.value ≡ prepared.now.plan }
-    ensures { Concludes result.1 IsReport (K.taken out.old) (K.taken out.new) (K.faults out.old) (K.faults out.new) }
+    ensures ends { Concludes result.1 IsReport (K.taken out.old) (K.taken out.new) (K.faults out.old) (K.faults out.new) }
+    ensures failed { result.1 ≡ Ending.DiskFailed → Rose (D.faults tables.opening.disk.value) (D.faults result.0) }
 {
     conclude_as(alloc, prepared, tables, None, out)
 }

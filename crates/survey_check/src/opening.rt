@@ -1,6 +1,7 @@
-ghost use Rattle.std.specs.Prelude.{◌≡◌, ◌≢◌, IfOk, IfErr, OnOk};
-ghost use Rattle.sv_outside.specs.Outside.{counted};
+ghost use Rattle.std.specs.Prelude.{◌≡◌, ◌≢◌, ◌⊎◌, ◌<◌, ◌^◌, ℕ, IfOk, IfErr, OnOk};
+ghost use Rattle.sv_outside.specs.Outside.{Rose, counted};
 ghost use Rattle.tables.specs.Sound.{IsSound};
+ghost use Rattle.survey_check.specs.Outcome.{HasFault};
 ghost use Rattle.survey_check.specs.Texts.{IsRefusalLine};
 ghost use Rattle.survey_check.specs.computed.Endings.{IsUnopened, IsStopped, status_number};
 
@@ -19,7 +20,8 @@ const TERM: u64 = 60_000;
 // The line that refuses a database, or want of memory for it.
 fn refused(line: Result<Vec<u8>, NoMemory>) -> Ending
     requires { IfOk line (λ l. IsRefusalLine l.items) }
-    ensures { IsUnopened result }
+    ensures unopened { IsUnopened result }
+    ensures other { result ≢ Ending.DiskFailed }
 {
     match line {
         Ok(line) => Ending::Refused(line),
@@ -29,7 +31,8 @@ fn refused(line: Result<Vec<u8>, NoMemory>) -> Ending
 
 // How a call ends whose database is not opened.
 fn unopened(alloc: Global, fault: OpenFault) -> Ending
-    ensures { IsUnopened result }
+    ensures unopened { IsUnopened result }
+    ensures failed { result ≡ Ending.DiskFailed → fault ≡ OpenFault.Disk }
 {
     match fault {
         OpenFault::Disk => Ending::DiskFailed,
@@ -44,7 +47,9 @@ fn unopened(alloc: Global, fault: OpenFault) -> Ending
 
 /// How a call ends whose rounds are not all computed.
 pub(crate) fn stopped(alloc: Global, stop: Stop) -> Ending
-    ensures { IsStopped result }
+    requires { (size : ℕ) → stop ≡ Stop.Full size → 2 ^ 31 < size }
+    ensures stopped { IsStopped result }
+    ensures failed { result ≡ Ending.DiskFailed → stop ≡ Stop.Disk }
 {
     match stop {
         Stop::Disk => Ending::DiskFailed,
@@ -63,10 +68,13 @@ pub fn open_tables<M: Disks>(
     path: &str,
     prepared: &Prepared,
 ) -> Result<Tables<M::D, Plan>, (Option<M::D>, Ending)>
-    ensures sound { IfOk result (λ t. IsSound M.D.told M.D.seen t) }
+    ensures sound { IfOk result (λ t. IsSound M.D.told M.D.seen M.D.faults t) }
     ensures work { IfOk result (λ t. t.opening.work.value ≡ prepared.now.plan) }
+    ensures faults { IfOk result (λ t. M.D.faults t.opening.disk.value ≡ M.faults_of disks.old path.now) }
     ensures opened { OnOk result (M.faults disks.new ≡ M.faults disks.old) }
     ensures refused { IfErr result (λ r. IsUnopened r.1) }
+    ensures failed { IfErr result (λ r. r.1 ≡ Ending.DiskFailed → Rose (M.faults disks.old) (M.faults disks.new)
+        ⊎ HasFault M.D.faults (M.faults_of disks.old path.now) r.0) }
     ensures all_opened { IfErr result (λ r. status_number r.1 ≢ 5 → M.faults disks.new ≡ M.faults disks.old) }
     ensures counted { M.calls disks.new ≡ counted (M.calls disks.old) }
 {

@@ -1,9 +1,9 @@
-ghost use Rattle.std.specs.Prelude.{◌≡◌, ◌≢◌, ◌≤◌, ◌⊎◌, Some, None};
+ghost use Rattle.std.specs.Prelude.{◌≡◌, ◌≢◌, ◌≤◌, ◌⊎◌, [], Some, None};
 ghost use Rattle.sv_outside.specs.Outside.{Rose};
 ghost use Rattle.survey.specs.Words.{texts};
 ghost use Rattle.survey.specs.Outcome.{IsReported, Tells};
 ghost use Rattle.survey_check.specs.Words.{trial_of};
-ghost use Rattle.survey_check.specs.Outcome.{IsTrial, Totals, Puts, PutsFront, Opens, NothingUnread, Complains};
+ghost use Rattle.survey_check.specs.Outcome.{IsTrial, Totals, Puts, PutsFront, Opens, HasFault, NothingUnread, Complains};
 ghost use Rattle.survey_check.specs.computed.Endings.{making, Ends};
 
 use crate::ending::status_of;
@@ -45,8 +45,10 @@ fn trial_made<K: Sink, M: Disks>(
     out: &mut K,
     disks: &mut M,
 ) -> (Option<M::D>, Ending)
-    ensures { Ends result.1 (IsTrial trial.number trial.functions) NothingUnread (Some (making trial)) (K.taken out.old) (K.taken out.new)
+    ensures ends { Ends result.1 (IsTrial trial.number trial.functions) NothingUnread (Some (making trial)) (K.taken out.old) (K.taken out.new)
         (record { unread_before = 0; unread_now = 0; puts_before = K.faults out.old; puts_now = K.faults out.new; opens_before = M.calls disks.old; opens_now = M.calls disks.new; unopened_before = M.faults disks.old; unopened_now = M.faults disks.new }) }
+    ensures failed { result.1 ≡ Ending.DiskFailed → Rose (M.faults disks.old) (M.faults disks.new)
+        ⊎ HasFault M.D.faults (M.faults_of disks.old []) result.0 }
 {
     let (Ok(files), Ok(asked)) = (trial_files(alloc, trial), trial_asked(alloc)) else {
         return (None, Ending::Plain(survey::Ending::NoMemory));
@@ -61,8 +63,10 @@ fn trial_words<K: Sink, M: Disks>(
     out: &mut K,
     disks: &mut M,
 ) -> (Option<M::D>, Ending)
-    ensures { Ends result.1 (Totals (trial_of (texts words.now))) NothingUnread (trial_of (texts words.now)) (K.taken out.old) (K.taken out.new)
+    ensures ends { Ends result.1 (Totals (trial_of (texts words.now))) NothingUnread (trial_of (texts words.now)) (K.taken out.old) (K.taken out.new)
         (record { unread_before = 0; unread_now = 0; puts_before = K.faults out.old; puts_now = K.faults out.new; opens_before = M.calls disks.old; opens_now = M.calls disks.new; unopened_before = M.faults disks.old; unopened_now = M.faults disks.new }) }
+    ensures failed { result.1 ≡ Ending.DiskFailed → Rose (M.faults disks.old) (M.faults disks.new)
+        ⊎ HasFault M.D.faults (M.faults_of disks.old []) result.0 }
 {
     let trial = match trial_of(alloc, words) {
         Ok(trial) => trial,
@@ -96,6 +100,10 @@ pub fn survey_trial<K: Sink, M: Disks>(
     ensures unwritten { result.status ≡ 7 → Rose (K.faults out.old) (K.faults out.new) }
     ensures all_written { result.status ≢ 7 → K.faults out.new ≡ K.faults out.old }
     ensures all_opened { result.status ≢ 5 → M.faults disks.new ≡ M.faults disks.old }
+
+    // Status 5 comes only where the disk could not be opened, or has counted a fault since.
+    ensures failed { result.status ≡ 5 → Rose (M.faults disks.old) (M.faults disks.new)
+        ⊎ HasFault M.D.faults (M.faults_of disks.old []) result.disk }
 
     // One disk is opened at most, and none where the words or the source are refused.
     ensures opens { Opens result.status (M.calls disks.old) (M.calls disks.new) }

@@ -1,10 +1,10 @@
-ghost use Rattle.std.specs.Prelude.{◌≡◌, ◌≢◌, ◌≤◌, Some, None, ◌⊎◌};
+ghost use Rattle.std.specs.Prelude.{◌≡◌, ◌≢◌, ◌≤◌, Some, None, ◌⊎◌, string_bytes};
 ghost use Rattle.sv_outside.specs.Outside.{Rose};
 ghost use Rattle.survey.specs.Words.{texts};
 ghost use Rattle.survey.specs.Outcome.{IsReport, IsReported, Tells};
 ghost use Rattle.survey.specs.computed.Asking.{asking};
-ghost use Rattle.survey_check.specs.Words.{check_of, files_of};
-ghost use Rattle.survey_check.specs.Outcome.{Puts, PutsFront, Opens, UnreadAs, Complains};
+ghost use Rattle.survey_check.specs.Words.{check_of, files_of, path_of};
+ghost use Rattle.survey_check.specs.Outcome.{Puts, PutsFront, Opens, HasFault, UnreadAs, Complains};
 ghost use Rattle.survey_check.specs.computed.Endings.{wanting, Ends};
 
 use cli_words::WordsFault;
@@ -36,8 +36,10 @@ fn check_files<
     clock: &C,
     gate: &G,
 ) -> (Option<M::D>, Ending)
-    ensures { Ends result.1 IsReport (UnreadAs (Some (asking request.now.asked)) (S.calls sources.old) (S.calls sources.new)) (Some (wanting request.now)) (K.taken out.old) (K.taken out.new)
+    ensures ends { Ends result.1 IsReport (UnreadAs (Some (asking request.now.asked)) (S.calls sources.old) (S.calls sources.new)) (Some (wanting request.now)) (K.taken out.old) (K.taken out.new)
         (record { unread_before = S.faults sources.old; unread_now = S.faults sources.new; puts_before = K.faults out.old; puts_now = K.faults out.new; opens_before = M.calls disks.old; opens_now = M.calls disks.new; unopened_before = M.faults disks.old; unopened_now = M.faults disks.new }) }
+    ensures failed { result.1 ≡ Ending.DiskFailed → Rose (M.faults disks.old) (M.faults disks.new)
+        ⊎ HasFault M.D.faults (M.faults_of disks.old (string_bytes request.now.path)) result.0 }
 {
     let files = match load_all(alloc, &request.asked, sources) {
         Ok(files) => files,
@@ -82,8 +84,10 @@ fn check_words<
     clock: &C,
     gate: &G,
 ) -> (Option<M::D>, Ending)
-    ensures { Ends result.1 IsReport (UnreadAs (files_of (check_of (texts words.now))) (S.calls sources.old) (S.calls sources.new)) (check_of (texts words.now)) (K.taken out.old) (K.taken out.new)
+    ensures ends { Ends result.1 IsReport (UnreadAs (files_of (check_of (texts words.now))) (S.calls sources.old) (S.calls sources.new)) (check_of (texts words.now)) (K.taken out.old) (K.taken out.new)
         (record { unread_before = S.faults sources.old; unread_now = S.faults sources.new; puts_before = K.faults out.old; puts_now = K.faults out.new; opens_before = M.calls disks.old; opens_now = M.calls disks.new; unopened_before = M.faults disks.old; unopened_now = M.faults disks.new }) }
+    ensures failed { result.1 ≡ Ending.DiskFailed → Rose (M.faults disks.old) (M.faults disks.new)
+        ⊎ HasFault M.D.faults (M.faults_of disks.old (path_of (check_of (texts words.now)))) result.0 }
 {
     let request = match check_of(alloc, words) {
         Ok(request) => request,
@@ -130,6 +134,10 @@ pub fn survey<
     ensures all_read { result.status ≢ 4 → result.status ≢ 8 → S.faults sources.new ≡ S.faults sources.old }
     ensures all_written { result.status ≢ 7 → K.faults out.new ≡ K.faults out.old }
     ensures all_opened { result.status ≢ 5 → M.faults disks.new ≡ M.faults disks.old }
+
+    // Status 5 comes only where the disk could not be opened, or has counted a fault since.
+    ensures failed { result.status ≡ 5 → Rose (M.faults disks.old) (M.faults disks.new)
+        ⊎ HasFault M.D.faults (M.faults_of disks.old (path_of (check_of (texts words.now)))) result.disk }
 
     // One disk is opened at most, and none where the words or the source are refused.
     ensures opens { Opens result.status (M.calls disks.old) (M.calls disks.new) }

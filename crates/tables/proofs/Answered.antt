@@ -1,7 +1,8 @@
 -- Which publications were answered how.
-use Rattle.std.proofs.Common.{◌≡◌, ℕ, Bool, true, false, cond, List, [], ◌∷◌, ◌++◌, map, length, refl, ap, arith, ◌-◌, ◌<◌, ◌≤◌, ◌^◌}
+use Rattle.std.proofs.Common.{◌≡◌, ℕ, Bool, true, false, cond, List, [], ◌∷◌, ◌++◌, map, length, All, slice_index_or, refl, ap, arith, ◌-◌, ◌<◌, ◌≤◌, ◌^◌}
 use Rattle.std.proofs.lemmas.Bool.{ne_eqb}
 use Rattle.std.proofs.lemmas.List.{map-append}
+use Rattle.std.proofs.lemmas.List.Elements.{All-map}
 use Rattle.journal.specs.Format.{Entry}
 use Rattle.journal.specs.Settling.{IsPlain, ArePlain}
 use Rattle.tables.specs.declared.batch.Publication.{Publication}
@@ -9,7 +10,7 @@ use Rattle.tables.specs.declared.publish.Publish.{Publish}
 use Rattle.tables.specs.declared.publish.Publish.TheVariants.{Stored, Lost, Disk, Full, NoMemory}
 use Rattle.tables.specs.Batches.{instead}
 use Rattle.tables.specs.Shelves.{Shelved}
-use Rattle.tables.specs.Sound.{record_body}
+use Rattle.tables.specs.Sound.{record_body, HasCause}
 use Rattle.tables.specs.Stored.{record_of, record_for, records_of, answered_by, is_stored, is_failed, is_written}
 
 -- one more
@@ -89,3 +90,14 @@ failed_stored (p ∷ done) (Lost round standing ∷ answers) e = failed_stored d
 failed_stored (p ∷ done) (Disk ∷ answers) e = absurd cc
 failed_stored (p ∷ done) (Full size ∷ answers) e = failed_stored done answers e
 failed_stored (p ∷ done) (NoMemory ∷ answers) e = failed_stored done answers e
+
+-- the causes of answers, where another that has one is given in place of that to what was to be stored
+cause_instead : (failed : Bool) (answer : Publish) → HasCause failed answer → (each : Publish) → HasCause failed each → HasCause failed (instead answer each)
+cause_instead failed answer cause Stored h = cause
+cause_instead failed answer cause (Lost round standing) h = tt
+cause_instead failed answer cause Disk h = h
+cause_instead failed answer cause (Full size) h = h
+cause_instead failed answer cause NoMemory h = tt
+
+pub causes_instead : (failed : Bool) (answer : Publish) → HasCause failed answer → (answers : List Publish) → All (HasCause failed) answers → All (HasCause failed) (map (instead answer) answers)
+causes_instead failed answer cause answers h = All-map (HasCause failed) (instead answer) answers (λ k d lt. cause_instead failed answer cause (slice_index_or answers k d) (h k d lt))

@@ -1,6 +1,7 @@
 -- A batch with one more publication.
-use Rattle.std.proofs.Common.{◌≡◌, ℕ, ◌+◌, Bool, false, List, [], ◌∷◌, ◌++◌, map, length, Option, Some, refl, sym, ap, subst, ◌∙◌, arith}
+use Rattle.std.proofs.Common.{◌≡◌, ℕ, ◌+◌, Bool, false, List, [], ◌∷◌, ◌++◌, length, Option, Some, refl, sym, ap, subst, ◌∙◌}
 use Rattle.std.proofs.lemmas.List.{append-nil, length-append}
+use Rattle.std.proofs.lemmas.List.Elements.{All-append, All-cons, All-nil}
 use Rattle.journal.specs.declared.piece.Piece.{Piece}
 use Rattle.journal.specs.Format.{Entry, IsBatch}
 use Rattle.journal.specs.Pieces.{piece_bytes}
@@ -10,6 +11,7 @@ use Rattle.tables.specs.declared.publish.Publish.{Publish}
 use Rattle.tables.specs.declared.publish.Publish.TheVariants.{Stored}
 use Rattle.tables.specs.Batches.{IsPieceOf, IsBatchOf}
 use Rattle.tables.specs.Shelves.{Shelved}
+use Rattle.tables.specs.Sound.{HasCause}
 use Rattle.tables.specs.Stored.{record_for, records_of, answered_by, is_stored, is_failed}
 use Rattle.tables.proofs.Answered.{answered_push, records_push, plain_push}
 
@@ -22,13 +24,14 @@ none_of is done answers p a unlike e = answered_push is done answers p a e ∙ (
 
 -- one that is refused
 pub batch_refused : (shelf : Shelved) (round : ℕ) (done : List Publication) (piece : Option Piece) (taken : List Publication) (answers : List Publish) (p : Publication) (a : Publish) →
-    is_stored a ≡ false → is_failed a ≡ false → IsBatchOf shelf round done piece taken answers → IsBatchOf shelf round (done ++ p ∷ []) piece taken (answers ++ a ∷ [])
-batch_refused shelf round done piece taken answers p a unstored sound h = record {
+    is_stored a ≡ false → is_failed a ≡ false → ((failed : Bool) → HasCause failed a) → IsBatchOf shelf round done piece taken answers → IsBatchOf shelf round (done ++ p ∷ []) piece taken (answers ++ a ∷ [])
+batch_refused shelf round done piece taken answers p a unstored sound cause h = record {
   answered = one_more answers done a p h.answered;
   taken_is = h.taken_is ∙ sym (none_of is_stored done answers p a unstored h.answered);
   plain = h.plain;
   written = h.written;
   none_failed = none_of is_failed done answers p a sound h.answered ∙ h.none_failed;
+  causes = λ failed. All-append (HasCause failed) answers (a ∷ []) (h.causes failed) (All-cons (HasCause failed) a [] (cause failed) (All-nil (HasCause failed)));
 }
 
 -- one whose record was added
@@ -43,6 +46,7 @@ batch_taken shelf round done piece now taken answers p is written h =
       plain = subst (λ (l : List Entry). ArePlain l) (sym more) (plain_push (records_of shelf round taken) (record_for shelf round p) h.plain is);
       written = subst (λ (l : List Entry). IsPieceOf l now) (sym more) written;
       none_failed = none_of is_failed done answers p Stored refl h.answered ∙ h.none_failed;
+      causes = λ failed. All-append (HasCause failed) answers (Stored ∷ []) (h.causes failed) (All-cons (HasCause failed) Stored [] tt (All-nil (HasCause failed)));
     }
 
 -- what stands in a batch of some records

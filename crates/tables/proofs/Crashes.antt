@@ -1,13 +1,13 @@
 -- What a crash leaves of a call that makes room and then writes a batch, or writes nothing.
-use Rattle.std.proofs.Common.{◌≡◌, ◌≢◌, ◌⊎◌, ◌≤◌, ℕ, Bool, true, false, List, [], ◌∷◌, ◌++◌, inl, inr, refl, sym, subst, arith, ap, ◌∙◌}
+use Rattle.std.proofs.Common.{◌≡◌, ◌⊎◌, ℕ, Bool, true, false, List, [], inl, inr, sym, subst, arith, ◌∙◌}
 use Rattle.std.proofs.lemmas.List.{append-nil}
-use Rattle.sv_outside.specs.Disk.{Only, IsStill, LeavesOnly}
+use Rattle.sv_outside.specs.Disk.{IsStill, LeavesOnly}
 use Rattle.journal.specs.declared.digests.Digests.{Digests}
 use Rattle.journal.specs.declared.digests.Version.{Version}
 use Rattle.journal.specs.declared.journal.Journal.{Journal}
 use Rattle.journal.specs.Format.{Entry}
 use Rattle.journal.specs.Journals.{journal_disk, journal_gate, has_failed, IsSettled}
-use Rattle.journal.specs.Settling.{Settled, HoldsEither}
+use Rattle.journal.specs.Settling.{HoldsEither}
 use Rattle.tables.specs.Stored.{Lasts, LeftByWriting, AllOrNone}
 
 -- no time has passed

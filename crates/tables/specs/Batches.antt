@@ -1,5 +1,5 @@
 -- Publications whose records are to be written together.
-use Rattle.std.specs.Prelude.{◌≡◌, ℕ, List, [], length, Option, Some, None}
+use Rattle.std.specs.Prelude.{◌≡◌, ℕ, Bool, List, [], length, All, Option, Some, None}
 use Rattle.journal.specs.declared.piece.Piece.{Piece}
 use Rattle.journal.specs.Format.{Entry, IsBatch}
 use Rattle.journal.specs.Pieces.{piece_bytes}
@@ -8,6 +8,7 @@ use Rattle.tables.specs.declared.batch.Publication.{Publication}
 use Rattle.tables.specs.declared.publish.Publish.{Publish}
 use Rattle.tables.specs.declared.publish.Publish.TheVariants.{Stored, Lost, Disk, Full, NoMemory}
 use Rattle.tables.specs.Shelves.{Shelved}
+use Rattle.tables.specs.Sound.{HasCause}
 use Rattle.tables.specs.Stored.{records_of, answered_by, is_stored, is_failed}
 
 -- the records that are to be written
@@ -22,6 +23,7 @@ pub record IsBatchOf (shelf : Shelved) (round : ℕ) (done : List Publication) (
   pub plain : ArePlain (records_of shelf round taken)
   pub written : IsPieceOf (records_of shelf round taken) piece
   pub none_failed : answered_by is_failed done answers ≡ []
+  pub causes : (failed : Bool) → All (HasCause failed) answers
 
 -- an answer in place of that to what was to be stored
 abbrev pub instead : Publish → Publish → Publish

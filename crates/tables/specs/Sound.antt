@@ -1,8 +1,9 @@
 -- What holds of tables between two calls.
 use Rattle.std.specs.Prelude.{◌≡◌, ◌⊎◌, ℕ, ◌+◌, ◌-◌, ◌*◌, ◌<◌, ◌≤◌, ◌^◌, nat_lt, ◌&&◌, if◌then◌else◌, Bool, true, false, List, [], ◌∷◌, ◌++◌, length, Option, Some, None}
 use Rattle.std.specs.Str.{bytes_eq}
-use Rattle.journal.specs.Journals.{journal_gate, IsJournal}
+use Rattle.journal.specs.Journals.{journal_disk, journal_gate, has_failed, IsJournal}
 use Rattle.journal.specs.declared.journal.Journal.{Journal}
+use Rattle.sv_outside.specs.Outside.{Rose}
 use Rattle.lease_table.specs.Machine.{Machine, Holds, found_standing, Publishes as PublishesLease, Advances, Ends}
 use Rattle.lease_table.specs.Standings.{AllDone}
 use Rattle.lease_table.specs.declared.event.Event.{Event}
@@ -48,10 +49,17 @@ events_of tables = tables.rounds.events
 abbrev pub journal_of : {D W B V : Type 0} → Tables D W B V → Journal D
 journal_of tables = tables.journal
 
--- the journal can be written, and its records take more bytes than there are rounds
-pub record IsSound {D W B V : Type 0} (told : Bool) (seen : D → List ℕ) (tables : Tables D W B V) : Type 0 where
+-- the disk when the tables were opened
+abbrev pub opened_disk : {D W B V : Type 0} → Tables D W B V → D
+opened_disk tables = tables.opening.disk.value
+
+-- the journal can be written, and its records take more bytes than there are rounds. The disk has counted no fewer faults
+-- than when the tables were opened, and more where the journal has failed.
+pub record IsSound {D W B V : Type 0} (told : Bool) (seen : D → List ℕ) (faults : D → ℕ) (tables : Tables D W B V) : Type 0 where
   pub journal : IsJournal told seen (journal_of tables)
   pub spaced : Spaced (machine_of tables) (journal_gate (journal_of tables))
+  pub later : faults (opened_disk tables) ≤ faults (journal_disk (journal_of tables))
+  pub risen : has_failed (journal_of tables) ≡ true → Rose (faults (opened_disk tables)) (faults (journal_disk (journal_of tables)))
 
 -- whether the task has this artifact in the round before
 abbrev pub is_repeated : Shelved → ℕ → ℕ → List ℕ → Bool
@@ -74,6 +82,14 @@ abbrev pub StopsAt : ℕ → Stop → Type 0
 StopsAt size stops.Disk = size ≤ 2 ^ 31
 StopsAt size (stops.Full needed) = (needed ≡ size) × (2 ^ 31 < size)
 StopsAt size stops.NoMemory = size ≤ 2 ^ 31
+
+-- why a publication was refused: a call of the disk has failed, or the image would be too long
+abbrev pub HasCause : Bool → Publish → Type 0
+HasCause failed Disk = failed ≡ true
+HasCause failed (Full size) = 2 ^ 31 < size
+HasCause failed Stored = Unit {0}
+HasCause failed (Lost round standing) = Unit {0}
+HasCause failed NoMemory = Unit {0}
 
 -- the same but for what may have been written
 abbrev pub SameRounds : {D W B V : Type 0} → Tables D W B V → Tables D W B V → Type 0

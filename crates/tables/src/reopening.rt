@@ -1,5 +1,6 @@
 //! What was published before, read back into rounds.
-ghost use Rattle.std.specs.Prelude.{◌≡◌, ◌≤◌, ◌+◌, ◌*◌, ◌^◌, ◌<◌, ℕ, [], Some, true, false, length, IfOk, OnOk};
+ghost use Rattle.std.specs.Prelude.{◌≡◌, ◌≢◌, ◌≤◌, ◌+◌, ◌*◌, ◌^◌, ◌<◌, ℕ, [], Some, true, false, length, IfOk, IfErr, OnOk};
+ghost use Rattle.sv_outside.specs.Outside.{Rose};
 ghost use Rattle.journal.specs.declared.digests.Digests.{Digests as Digested};
 ghost use Rattle.journal.specs.Readings.{reading_disk, reading_scan, IsReading, IsGoing, HasEnded};
 ghost use Rattle.journal.specs.Scans.{HasRead};
@@ -24,7 +25,8 @@ fn artifact_of(
     body: Vec<u8>,
     at: u64,
 ) -> Result<Vec<u8>, OpenFault>
-    ensures { IfOk result (λ artifact. artifact_in shelf.now round task body.items ≡ Some artifact.items) }
+    ensures artifact { IfOk result (λ artifact. artifact_in shelf.now round task body.items ≡ Some artifact.items) }
+    ensures fault { IfErr result (λ fault. fault ≢ OpenFault.Disk) }
 {
     if !is_mark(&body) {
         return Ok(body);
@@ -56,6 +58,7 @@ fn take<W: Work>(
     requires { 13 * rounds.old.machine.round ≤ 2 ^ 31 }
     ensures spaced { (at : ℕ) → Spaced rounds.old.machine at → OnOk result (Spaced rounds.new.machine (at + 13)) }
     ensures takes { OnOk result (Takes (entry_of kept) rounds.old rounds.new) }
+    ensures fault { IfErr result (λ fault. fault ≢ OpenFault.Disk) }
 {
     let Kept {
         round,
@@ -92,6 +95,8 @@ pub(crate) fn read_back<D: Disk, W: Work>(
     ensures spaced { IfOk result (λ rounds. Spaced rounds.machine (reading_scan reading.new).at) }
     ensures read { D.told ≡ true → (digests : Digested) → HasRead digests [] (reading_scan reading.old) (D.seen (reading_disk reading.old)) →
         IfOk result (λ rounds. IsReadBack D.told D.may_leave digests (D.seen (reading_disk reading.old)) reading.new rounds) }
+    ensures failed { IfErr result (λ fault. fault ≡ OpenFault.Disk → Rose (D.faults (reading_disk reading.old)) (D.faults (reading_disk reading.new))) }
+    ensures later { D.faults (reading_disk reading.old) ≤ D.faults (reading_disk reading.new) }
 {
     let first = work.plan(alloc, 0, &Shelf::new(alloc))?;
     let mut rounds = Rounds::new(alloc, first)?;

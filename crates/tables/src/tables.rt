@@ -48,13 +48,13 @@ impl<D: Disk, W: Work> Tables<D, W> {
     ghost use Rattle.lease_table.specs.Standings.{AllDone, SomeNotDone};
     ghost use Rattle.sv_outside.specs.Outside.{Rose};
     ghost use Rattle.journal.specs.Format.{Entry, IsBatch};
-    ghost use Rattle.journal.specs.Journals.{journal_disk, journal_gate};
+    ghost use Rattle.journal.specs.Journals.{journal_disk, journal_gate, has_failed};
     ghost use Rattle.journal.specs.Pieces.{piece_bytes};
     ghost use Rattle.journal.specs.Settling.{ArePlain};
     ghost use Rattle.tables.specs.Replays.{IsReplayed};
     ghost use Rattle.tables.specs.Rounds.{Follows, claims_of, abandons_of, expires_of};
     ghost use Rattle.tables.specs.Shelves.{artifact_at};
-    ghost use Rattle.tables.specs.Sound.{IsSound, machine_of, shelf_of, events_of, journal_of, is_repeated, record_body, record_size, StopsAt, Publishes, FollowsRound};
+    ghost use Rattle.tables.specs.Sound.{IsSound, machine_of, shelf_of, events_of, journal_of, is_repeated, record_body, record_size, StopsAt, HasCause, Publishes, FollowsRound};
     ghost use Rattle.tables.specs.Stored.{record_of, records_of, answered_by, is_stored, is_failed, written_by, HasFailed, Lasts, AllOrNone};
     ghost use Rattle.tables.specs.Batches.{IsBatchOf};
     ghost use Rattle.tables.specs.Works.{IsNoMark};
@@ -67,7 +67,7 @@ impl<D: Disk, W: Work> Tables<D, W> {
         digests: &Digests,
         term: u64,
     ) -> Result<Tables<D, W>, (D, OpenFault)>
-        ensures sound { IfOk result (λ t. IsSound D.told D.seen t) }
+        ensures sound { IfOk result (λ t. IsSound D.told D.seen D.faults t) }
         ensures work { IfOk result (λ t. t.opening.work.value ≡ work.now) }
         ensures disk { IfOk result (λ t. t.opening.disk.value ≡ disk) }
         ensures term { IfOk result (λ t. t.opening.term ≡ term) }
@@ -75,6 +75,7 @@ impl<D: Disk, W: Work> Tables<D, W> {
 
         // The tables hold what the records of the image lead to, in order, and each crash leaves those records.
         ensures replayed { D.told ≡ true → IfOk result (λ t. IsReplayed D.told D.may_leave digests.now (D.seen disk) t) }
+        ensures failed { IfErr result (λ refused. refused.1 ≡ OpenFault.Disk → Rose (D.faults disk) (D.faults refused.0)) }
     {
         let opening = Opening {
             digests: *digests,
@@ -145,8 +146,8 @@ impl<D: Disk, W: Work> Tables<D, W> {
 
     /// Leases the least task that is free or whose lease has run out.
     pub fn claim(&mut self, worker: u32, now: u64) -> Result<Claimed, NoMemory>
-        requires { IsSound D.told D.seen self.old }
-        ensures sound { IsSound D.told D.seen self.new }
+        requires { IsSound D.told D.seen D.faults self.old }
+        ensures sound { IsSound D.told D.seen D.faults self.new }
         ensures opening { self.new.opening ≡ self.old.opening }
         ensures step { IfOk result (λ claimed. Claims now self.old.opening.term (machine_of self.old) claimed (machine_of self.new)) }
         ensures events { IfOk result (λ claimed. events_of self.new ≡ events_of self.old ++ claims_of now self.old.opening.term claimed) }
@@ -207,8 +208,8 @@ impl<D: Disk, W: Work> Tables<D, W> {
 
     // Writes records, for which there may be no room.
     fn write_piece(&mut self, piece: &Piece) -> Result<(), Stop>
-        requires { IsSound D.told D.seen self.old }
-        ensures sound { IsSound D.told D.seen self.new }
+        requires { IsSound D.told D.seen D.faults self.old }
+        ensures sound { IsSound D.told D.seen D.faults self.new }
         ensures gate { OnOk result (journal_gate (journal_of self.new) ≡ journal_gate (journal_of self.old) + length (piece_bytes piece.now)) }
         ensures whole { 13 ≤ length (piece_bytes piece.now) }
         ensures same { (self.new.opening ≡ self.old.opening) × (self.new.rounds ≡ self.old.rounds) }
@@ -221,6 +222,7 @@ impl<D: Disk, W: Work> Tables<D, W> {
         ensures stays { IfErr result (λ stop. stop ≢ Stop.Disk → Lasts D.told D.may_leave [] (journal_of self.old) (journal_of self.new)) }
         ensures nothing { IfErr result (λ stop. stop ≢ Stop.Disk → AllOrNone D.told D.moment D.left_since D.may_leave [] (journal_of self.old) (journal_of self.new)) }
         ensures failed { IfErr result (λ stop. stop ≡ Stop.Disk → HasFailed D.faults (journal_of self.old) (journal_of self.new)) }
+        ensures fails { IfErr result (λ stop. stop ≡ Stop.Disk → has_failed (journal_of self.new) ≡ true) }
     {
         let _length = piece.len();
         match self.journal.reserve_for(piece) {
@@ -236,15 +238,16 @@ impl<D: Disk, W: Work> Tables<D, W> {
 
     // Writes the record of an artifact.
     fn write(&mut self, alloc: Global, round: u32, task: u32, artifact: &[u8]) -> Result<(), Stop>
-        requires sound { IsSound D.told D.seen self.old }
+        requires sound { IsSound D.told D.seen D.faults self.old }
         requires round { round ≡ (machine_of self.old).round }
-        ensures sound { IsSound D.told D.seen self.new }
+        ensures sound { IsSound D.told D.seen D.faults self.new }
         ensures gate { OnOk result ((journal_gate (journal_of self.new) + 1 ≡ record_size self.old round task artifact.now) × (record_size self.old round task artifact.now ≤ 2 ^ 31)) }
         ensures stops { IfErr result (StopsAt (record_size self.old round task artifact.now)) }
         ensures same { (self.new.opening ≡ self.old.opening) × (self.new.rounds ≡ self.old.rounds) }
         ensures lasts { OnOk result (Lasts D.told D.may_leave (record_of (shelf_of self.old) round task artifact.now ∷ []) (journal_of self.old) (journal_of self.new)) }
         ensures any_moment { AllOrNone D.told D.moment D.left_since D.may_leave (record_of (shelf_of self.old) round task artifact.now ∷ []) (journal_of self.old) (journal_of self.new) }
         ensures failed { IfErr result (λ stop. stop ≡ Stop.Disk → HasFailed D.faults (journal_of self.old) (journal_of self.new)) }
+        ensures fails { IfErr result (λ stop. stop ≡ Stop.Disk → has_failed (journal_of self.new) ≡ true) }
     {
         let body = self.body(round, task, artifact);
         let size = self.journal.size_with(body.len() as u64);
@@ -265,10 +268,10 @@ impl<D: Disk, W: Work> Tables<D, W> {
         ticket: u64,
         artifact: Vec<u8>,
     ) -> Publish
-        requires sound { IsSound D.told D.seen self.old }
+        requires sound { IsSound D.told D.seen D.faults self.old }
         requires work { self.old.opening.work.value ≡ work.now }
         requires artifact { IsNoMark artifact.items }
-        ensures sound { IsSound D.told D.seen self.new }
+        ensures sound { IsSound D.told D.seen D.faults self.new }
         ensures opening { self.new.opening ≡ self.old.opening }
         ensures publishes { Publishes round task ticket artifact.items self.old result self.new }
 
@@ -277,6 +280,7 @@ impl<D: Disk, W: Work> Tables<D, W> {
         ensures lasts { result ≡ Publish.Stored → Lasts D.told D.may_leave (record_of (shelf_of self.old) round task artifact.items ∷ []) (journal_of self.old) (journal_of self.new) }
         ensures any_moment { AllOrNone D.told D.moment D.left_since D.may_leave (record_of (shelf_of self.old) round task artifact.items ∷ []) (journal_of self.old) (journal_of self.new) }
         ensures failed { result ≡ Publish.Disk → HasFailed D.faults (journal_of self.old) (journal_of self.new) }
+        ensures causes { HasCause (has_failed (journal_of self.new)) result }
     {
         let _ = work;
         let standing = self.rounds.found(round, task);
@@ -305,7 +309,7 @@ impl<D: Disk, W: Work> Tables<D, W> {
         batch: &mut Batch,
         publication: Publication,
     ) -> Result<(), NoMemory>
-        requires { IsSound D.told D.seen self.now }
+        requires { IsSound D.told D.seen D.faults self.now }
         ensures { (done : List Publication) →
             IsBatchOf (shelf_of self.now) round done batch.old.piece batch.old.taken.items batch.old.answers.items →
             OnOk result (IsBatchOf (shelf_of self.now) round (done ++ publication ∷ []) batch.new.piece batch.new.taken.items batch.new.answers.items) }
@@ -341,7 +345,7 @@ impl<D: Disk, W: Work> Tables<D, W> {
         round: u32,
         publications: Vec<Publication>,
     ) -> Result<Batch, NoMemory>
-        requires { IsSound D.told D.seen self.now }
+        requires { IsSound D.told D.seen D.faults self.now }
         ensures { IfOk result (λ b. IsBatchOf (shelf_of self.now) round publications.items b.piece b.taken.items b.answers.items) }
     {
         let mut batch = Batch::new(alloc);
@@ -353,9 +357,9 @@ impl<D: Disk, W: Work> Tables<D, W> {
 
     // Puts an artifact whose record was written.
     fn put(&mut self, round: u32, publication: Publication)
-        requires sound { IsSound D.told D.seen self.old }
+        requires sound { IsSound D.told D.seen D.faults self.old }
         requires written { 13 * ((machine_of self.old).round + 1) ≤ journal_gate (journal_of self.old) }
-        ensures sound { IsSound D.told D.seen self.new }
+        ensures sound { IsSound D.told D.seen D.faults self.new }
         ensures opening { self.new.opening ≡ self.old.opening }
         ensures journal { self.new.journal ≡ self.old.journal }
         ensures round { (machine_of self.new).round ≡ (machine_of self.old).round }
@@ -371,9 +375,9 @@ impl<D: Disk, W: Work> Tables<D, W> {
     }
 
     fn put_all(&mut self, round: u32, taken: Vec<Publication>)
-        requires sound { IsSound D.told D.seen self.old }
+        requires sound { IsSound D.told D.seen D.faults self.old }
         requires written { 13 * ((machine_of self.old).round + 1) ≤ journal_gate (journal_of self.old) }
-        ensures sound { IsSound D.told D.seen self.new }
+        ensures sound { IsSound D.told D.seen D.faults self.new }
         ensures opening { self.new.opening ≡ self.old.opening }
         ensures journal { self.new.journal ≡ self.old.journal }
         ensures round { (machine_of self.new).round ≡ (machine_of self.old).round }
@@ -392,10 +396,10 @@ impl<D: Disk, W: Work> Tables<D, W> {
         round: u32,
         publications: Vec<Publication>,
     ) -> Result<Vec<Publish>, NoMemory>
-        requires sound { IsSound D.told D.seen self.old }
+        requires sound { IsSound D.told D.seen D.faults self.old }
         requires work { self.old.opening.work.value ≡ work.now }
         requires artifacts { All (λ p. IsNoMark p.artifact.items) publications.items }
-        ensures sound { IsSound D.told D.seen self.new }
+        ensures sound { IsSound D.told D.seen D.faults self.new }
         ensures opening { self.new.opening ≡ self.old.opening }
         ensures round { (machine_of self.new).round ≡ (machine_of self.old).round }
         ensures gate { journal_gate (journal_of self.old) ≤ journal_gate (journal_of self.new) }
@@ -409,6 +413,10 @@ impl<D: Disk, W: Work> Tables<D, W> {
         ensures any_moment { AllOrNone D.told D.moment D.left_since D.may_leave (written_by (shelf_of self.old) round publications.items result) (journal_of self.old) (journal_of self.new) }
         ensures failed { IfOk result (λ a. answered_by is_failed publications.items a.items ≢ [] →
             (answered_by is_stored publications.items a.items ≡ []) × HasFailed D.faults (journal_of self.old) (journal_of self.new)) }
+
+        // Where an answer is `Disk`, a call of the disk has failed; where it is `Full`, the image would be longer than
+        // 2,147,483,648 bytes.
+        ensures causes { IfOk result (λ a. All (HasCause (has_failed (journal_of self.new))) a.items) }
     {
         let _ = work;
         let batch = self.decide_all(alloc, round, publications)?;
@@ -428,8 +436,8 @@ impl<D: Disk, W: Work> Tables<D, W> {
 
     /// Gives a lease back by its ticket.
     pub fn abandon(&mut self, round: u32, task: u32, ticket: u64) -> Abandoned
-        requires { IsSound D.told D.seen self.old }
-        ensures sound { IsSound D.told D.seen self.new }
+        requires { IsSound D.told D.seen D.faults self.old }
+        ensures sound { IsSound D.told D.seen D.faults self.new }
         ensures opening { self.new.opening ≡ self.old.opening }
         ensures step { Abandons round task ticket (machine_of self.old) result (machine_of self.new) }
         ensures events { events_of self.new ≡ events_of self.old ++ abandons_of task result }
@@ -441,8 +449,8 @@ impl<D: Disk, W: Work> Tables<D, W> {
 
     /// Frees each task whose lease has run out, and counts them.
     pub fn expire(&mut self, now: u64) -> u32
-        requires { IsSound D.told D.seen self.old }
-        ensures sound { IsSound D.told D.seen self.new }
+        requires { IsSound D.told D.seen D.faults self.old }
+        ensures sound { IsSound D.told D.seen D.faults self.new }
         ensures opening { self.new.opening ≡ self.old.opening }
         ensures step { Expires now (machine_of self.old) result (machine_of self.new) }
         ensures events { events_of self.new ≡ events_of self.old ++ expires_of now result }
@@ -454,11 +462,11 @@ impl<D: Disk, W: Work> Tables<D, W> {
 
     /// Begins the next round, or ends the tables after the last.
     pub fn advance(&mut self, alloc: Global, work: &W) -> Result<(), NoMemory>
-        requires sound { IsSound D.told D.seen self.old }
+        requires sound { IsSound D.told D.seen D.faults self.old }
         requires work { self.old.opening.work.value ≡ work.now }
         requires done { AllDone (machine_of self.old).tasks }
         requires going { (machine_of self.old).ended ≡ false }
-        ensures sound { IsSound D.told D.seen self.new }
+        ensures sound { IsSound D.told D.seen D.faults self.new }
         ensures opening { self.new.opening ≡ self.old.opening }
         ensures follows { OnOk result (FollowsRound self.old self.new) }
         ensures journal { journal_of self.new ≡ journal_of self.old }
@@ -470,7 +478,7 @@ impl<D: Disk, W: Work> Tables<D, W> {
 
     /// The length of the image.
     pub fn size(&self) -> u64
-        requires { IsSound D.told D.seen self.now }
+        requires { IsSound D.told D.seen D.faults self.now }
         ensures { result ≡ journal_gate (journal_of self.now) + 1 }
     {
         self.journal.size_with(0) - 13

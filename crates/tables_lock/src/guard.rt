@@ -22,7 +22,7 @@ impl<D: Disk, W: Work> TableRule<Option<Tables<D, W>>, View<D, W>, Snapshot<Open
     ghost use Rattle.tables_lock.specs.Rule.{IsKept, rests};
     ghost use Rattle.tables.specs.Sound.{IsSound};
 
-    ghost holds = { λ key. IsKept (IsSound D.told D.seen) };
+    ghost holds = { λ key. IsKept (IsSound D.told D.seen D.faults) };
 
     ghost first = { λ key. rests key.value };
 }
@@ -36,7 +36,7 @@ impl<D: Disk, W: Work> Play<Option<Tables<D, W>>, View<D, W>> for Takes<D, W> {
     ghost use Rattle.tables_lock.specs.Rule.{Taken};
     ghost use Rattle.tables.specs.Sound.{IsSound};
 
-    ghost then = { Taken (IsSound D.told D.seen) };
+    ghost then = { Taken (IsSound D.told D.seen D.faults) };
 }
 
 /// The swap to 0, which gives the tables back.
@@ -46,7 +46,7 @@ impl<D: Disk, W: Work> Play<Option<Tables<D, W>>, View<D, W>> for GivesBack {
     ghost use Rattle.tables_lock.specs.Rule.{GivenBack};
     ghost use Rattle.tables.specs.Sound.{IsSound};
 
-    ghost then = { GivenBack (IsSound D.told D.seen) };
+    ghost then = { GivenBack (IsSound D.told D.seen D.faults) };
 }
 
 /// A seat that is split off has the opening of the other, and holds nothing.

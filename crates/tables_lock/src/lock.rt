@@ -29,7 +29,7 @@ impl<D: Disk, W: Work> Lock<D, W> {
         alloc: Global,
         tables: Tables<D, W>,
     ) -> Result<(Lock<D, W>, Seat<D, W>), (Tables<D, W>, NoMemory)>
-        requires { IsSound D.told D.seen tables }
+        requires { IsSound D.told D.seen D.faults tables }
         ensures ok { IfOk result (λ r. (r.1.seat.table_id ≡ r.0.table.shared.table_id) × (r.1.seat.me.0.opening ≡ tables.opening)) }
         ensures err { IfErr result (λ r. r.0 ≡ tables) }
     {
@@ -58,7 +58,7 @@ impl<D: Disk, W: Work> Lock<D, W> {
         ensures own { seat.new.table_id ≡ seat.old.table_id }
         ensures holding { IsHolding seat.old.me.0.opening seat.new.me }
         ensures opening { result.opening ≡ seat.old.me.0.opening }
-        ensures sound { IsSound D.told D.seen result }
+        ensures sound { IsSound D.told D.seen D.faults result }
     {
         for _ in rt.forever() {
             let found = self
@@ -86,7 +86,7 @@ impl<D: Disk, W: Work> Lock<D, W> {
         requires own { seat.old.table_id ≡ self.now.table.shared.table_id }
         requires holding { IsHolding seat.old.me.0.opening seat.old.me }
         requires opening { tables.opening ≡ seat.old.me.0.opening }
-        requires sound { IsSound D.told D.seen tables }
+        requires sound { IsSound D.told D.seen D.faults tables }
         ensures own { seat.new.table_id ≡ seat.old.table_id }
         ensures rests { IsResting seat.new.me }
         ensures opening { seat.new.me.0.opening ≡ seat.old.me.0.opening }
@@ -105,11 +105,11 @@ impl<D: Disk, W: Work> Lock<D, W> {
         step: F,
     ) -> T
         requires own { seat.old.seat.table_id ≡ self.now.table.shared.table_id }
-        requires takes { TakesAll (IsSound D.told D.seen) F.FnOnce step seat.old.seat.me.0.opening }
-        requires keeps { KeepsOpening (IsSound D.told D.seen) F.FnOnce step seat.old.seat.me.0.opening }
+        requires takes { TakesAll (IsSound D.told D.seen D.faults) F.FnOnce step seat.old.seat.me.0.opening }
+        requires keeps { KeepsOpening (IsSound D.told D.seen D.faults) F.FnOnce step seat.old.seat.me.0.opening }
         ensures own { seat.new.seat.table_id ≡ seat.old.seat.table_id }
         ensures opening { seat.new.seat.me.0.opening ≡ seat.old.seat.me.0.opening }
-        ensures ran { Ran (IsSound D.told D.seen) F.FnOnce step seat.old.seat.me.0.opening result }
+        ensures ran { Ran (IsSound D.told D.seen D.faults) F.FnOnce step seat.old.seat.me.0.opening result }
     {
         let mut tables = self.take(rt, &mut seat.seat);
         let answer = step(&mut tables);
@@ -132,7 +132,7 @@ impl<D: Disk, W: Work> Lock<D, W> {
     pub fn close<R: Wait>(self, rt: &R, seat: Seat<D, W>) -> Tables<D, W>
         requires own { seat.seat.table_id ≡ self.table.shared.table_id }
         ensures opening { result.opening ≡ seat.seat.me.0.opening }
-        ensures sound { IsSound D.told D.seen result }
+        ensures sound { IsSound D.told D.seen D.faults result }
     {
         let mut seat = seat.into_raw();
         let tables = self.take(rt, &mut seat);

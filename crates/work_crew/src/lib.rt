@@ -76,9 +76,9 @@ pub fn work_together<
     gate: &G,
     workers: u32,
 ) -> Tables<D, W>
-    requires sound { IsSound D.told D.seen tables }
+    requires sound { IsSound D.told D.seen D.faults tables }
     requires work { tables.opening.work.value ≡ work.now }
-    ensures sound { IsSound D.told D.seen result }
+    ensures sound { IsSound D.told D.seen D.faults result }
     ensures opening { result.opening ≡ tables.opening }
 {
     let (lock, mut seat) = match Lock::open(alloc, tables) {

@@ -1,5 +1,6 @@
-ghost use Rattle.std.specs.Prelude.{◌≡◌, ◌<◌, ◌≤◌, ◌+◌, true, false, All, IfOk, OnOk, slice_get};
-ghost use Rattle.journal.specs.Journals.{journal_gate};
+ghost use Rattle.std.specs.Prelude.{◌≡◌, ◌<◌, ◌≤◌, ◌+◌, ◌^◌, ℕ, true, false, All, IfOk, IfErr, OnOk, slice_get};
+ghost use Rattle.journal.specs.Journals.{journal_disk, journal_gate, has_failed};
+ghost use Rattle.sv_outside.specs.Outside.{Rose};
 ghost use Rattle.lease_table.specs.Machine.{IsLeasedBy};
 ghost use Rattle.tables.specs.Sound.{IsSound, machine_of, journal_of};
 ghost use Rattle.tables.specs.Works.{IsNoMark};
@@ -43,9 +44,9 @@ fn some_computed<D: Disk, W: Work>(
     tables: &mut Tables<D, W>,
     work: &W,
 ) -> Result<Vec<Publication>, NoMemory>
-    requires sound { IsSound D.told D.seen tables.old }
+    requires sound { IsSound D.told D.seen D.faults tables.old }
     requires work { tables.old.opening.work.value ≡ work.now }
-    ensures sound { IsSound D.told D.seen tables.new }
+    ensures sound { IsSound D.told D.seen D.faults tables.new }
     ensures opening { tables.new.opening ≡ tables.old.opening }
     ensures journal { journal_of tables.new ≡ journal_of tables.old }
     ensures artifacts { IfOk result (λ list. All (λ p. IsNoMark p.artifact.items) list.items) }
@@ -64,11 +65,13 @@ fn some_computed<D: Disk, W: Work>(
 
 // Does some tasks of the round, at least one of those that are left.
 fn do_some<D: Disk, W: Work>(alloc: Global, tables: &mut Tables<D, W>, work: &W) -> Result<(), Stop>
-    requires sound { IsSound D.told D.seen tables.old }
+    requires sound { IsSound D.told D.seen D.faults tables.old }
     requires work { tables.old.opening.work.value ≡ work.now }
-    ensures sound { IsSound D.told D.seen tables.new }
+    ensures sound { IsSound D.told D.seen D.faults tables.new }
     ensures opening { tables.new.opening ≡ tables.old.opening }
     ensures more { OnOk result (journal_gate (journal_of tables.old) + 1 ≤ journal_gate (journal_of tables.new)) }
+    ensures failed { IfErr result (λ stop. stop ≡ Stop.Disk → has_failed (journal_of tables.new) ≡ true) }
+    ensures full { IfErr result (λ stop. (size : ℕ) → stop ≡ Stop.Full size → 2 ^ 31 < size) }
 {
     let size = tables.size();
     let round = tables.round();
@@ -85,12 +88,14 @@ fn do_some<D: Disk, W: Work>(alloc: Global, tables: &mut Tables<D, W>, work: &W)
 
 // Does some tasks of the round, or begins the next one.
 fn go_on<D: Disk, W: Work>(alloc: Global, tables: &mut Tables<D, W>, work: &W) -> Result<(), Stop>
-    requires sound { IsSound D.told D.seen tables.old }
+    requires sound { IsSound D.told D.seen D.faults tables.old }
     requires work { tables.old.opening.work.value ≡ work.now }
     requires going { (machine_of tables.old).ended ≡ false }
-    ensures sound { IsSound D.told D.seen tables.new }
+    ensures sound { IsSound D.told D.seen D.faults tables.new }
     ensures opening { tables.new.opening ≡ tables.old.opening }
     ensures less { OnOk result (left tables.new < left tables.old) }
+    ensures failed { IfErr result (λ stop. stop ≡ Stop.Disk → has_failed (journal_of tables.new) ≡ true) }
+    ensures full { IfErr result (λ stop. (size : ℕ) → stop ≡ Stop.Full size → 2 ^ 31 < size) }
 {
     if tables.round_done() {
         tables.advance(alloc, work)?;
@@ -105,11 +110,16 @@ pub fn finish<D: Disk, W: Work>(
     tables: &mut Tables<D, W>,
     work: &W,
 ) -> Result<(), Stop>
-    requires sound { IsSound D.told D.seen tables.old }
+    requires sound { IsSound D.told D.seen D.faults tables.old }
     requires work { tables.old.opening.work.value ≡ work.now }
-    ensures sound { IsSound D.told D.seen tables.new }
+    ensures sound { IsSound D.told D.seen D.faults tables.new }
     ensures opening { tables.new.opening ≡ tables.old.opening }
     ensures finished { OnOk result ((machine_of tables.new).ended ≡ true) }
+
+    // It stops for a disk only where a call of it has failed since the tables were opened, and for want of room only where
+    // the image would be longer than 2,147,483,648 bytes.
+    ensures failed { IfErr result (λ stop. stop ≡ Stop.Disk → Rose (D.faults tables.new.opening.disk.value) (D.faults (journal_disk (journal_of tables.new)))) }
+    ensures full { IfErr result (λ stop. (size : ℕ) → stop ≡ Stop.Full size → 2 ^ 31 < size) }
 {
     tables.expire(u64::MAX);
     'turns: while !tables.is_finished() {

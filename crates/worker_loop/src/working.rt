@@ -39,10 +39,10 @@ fn take_task<D: Disk, W: Work>(
     ticket: u64,
     list: &mut Vec<Task<W::View>>,
 ) -> Result<(), NoMemory>
-    requires sound { IsSound D.told D.seen tables.old }
+    requires sound { IsSound D.told D.seen D.faults tables.old }
     requires work { tables.old.opening.work.value ≡ work.now }
     requires leased { IsLeasedBy ticket (slice_get (machine_of tables.old).tasks task) }
-    ensures sound { IsSound D.told D.seen tables.new }
+    ensures sound { IsSound D.told D.seen D.faults tables.new }
     ensures opening { tables.new.opening ≡ tables.old.opening }
 {
     let turn = tables.turn(task, ticket);
@@ -63,9 +63,9 @@ fn claim_some<D: Disk, W: Work>(
     now: u64,
     list: &mut Vec<Task<W::View>>,
 ) -> Result<bool, NoMemory>
-    requires sound { IsSound D.told D.seen tables.old }
+    requires sound { IsSound D.told D.seen D.faults tables.old }
     requires work { tables.old.opening.work.value ≡ work.now }
-    ensures sound { IsSound D.told D.seen tables.new }
+    ensures sound { IsSound D.told D.seen D.faults tables.new }
     ensures opening { tables.new.opening ≡ tables.old.opening }
 {
     'tasks: for _ in 0..together(tables.tasks()) {
@@ -86,8 +86,8 @@ fn claim_some<D: Disk, W: Work>(
 
 // Gives the leases of these tasks back. One that is stored stays so.
 fn abandon_all<D: Disk, W: Work>(tables: &mut Tables<D, W>, tasks: &[Task<W::View>])
-    requires { IsSound D.told D.seen tables.old }
-    ensures sound { IsSound D.told D.seen tables.new }
+    requires { IsSound D.told D.seen D.faults tables.old }
+    ensures sound { IsSound D.told D.seen D.faults tables.new }
     ensures opening { tables.new.opening ≡ tables.old.opening }
 {
     'tasks: for task in tasks {
@@ -104,9 +104,9 @@ fn claimed<D: Disk, W: Work>(
     number: u32,
     now: u64,
 ) -> Option<Vec<Task<W::View>>>
-    requires sound { IsSound D.told D.seen tables.old }
+    requires sound { IsSound D.told D.seen D.faults tables.old }
     requires work { tables.old.opening.work.value ≡ work.now }
-    ensures sound { IsSound D.told D.seen tables.new }
+    ensures sound { IsSound D.told D.seen D.faults tables.new }
     ensures opening { tables.new.opening ≡ tables.old.opening }
 {
     let mut list = Vec::new(alloc);
@@ -152,10 +152,10 @@ fn store<D: Disk, W: Work>(
     round: u32,
     computed: Result<Vec<Publication>, NoMemory>,
 ) -> Result<(), Stop>
-    requires sound { IsSound D.told D.seen tables.old }
+    requires sound { IsSound D.told D.seen D.faults tables.old }
     requires work { tables.old.opening.work.value ≡ work.now }
     requires artifacts { IfOk computed (λ list. All (λ p. IsNoMark p.artifact.items) list.items) }
-    ensures sound { IsSound D.told D.seen tables.new }
+    ensures sound { IsSound D.told D.seen D.faults tables.new }
     ensures opening { tables.new.opening ≡ tables.old.opening }
 {
     let answers = tables.publish_all(alloc, work, round, computed?)?;
@@ -173,10 +173,10 @@ fn stored<D: Disk, W: Work>(
     tasks: &[Task<W::View>],
     computed: Result<Vec<Publication>, NoMemory>,
 ) -> bool
-    requires sound { IsSound D.told D.seen tables.old }
+    requires sound { IsSound D.told D.seen D.faults tables.old }
     requires work { tables.old.opening.work.value ≡ work.now }
     requires artifacts { IfOk computed (λ list. All (λ p. IsNoMark p.artifact.items) list.items) }
-    ensures sound { IsSound D.told D.seen tables.new }
+    ensures sound { IsSound D.told D.seen D.faults tables.new }
     ensures opening { tables.new.opening ≡ tables.old.opening }
 {
     let Some(first) = tasks.first() else {
@@ -212,8 +212,8 @@ pub fn work<R: Wait, D: Disk, W: Work, C: Clock, G: Gate>(
             rt,
             &mut seat,
             |tables: &mut Tables<D, W>| -> Option<Vec<Task<W::View>>>
-                requires { IsSound D.told D.seen tables.old × (tables.old.opening.work.value ≡ work.now) }
-                ensures sound { IsSound D.told D.seen tables.new }
+                requires { IsSound D.told D.seen D.faults tables.old × (tables.old.opening.work.value ≡ work.now) }
+                ensures sound { IsSound D.told D.seen D.faults tables.new }
                 ensures opening { tables.new.opening ≡ tables.old.opening }
             { claimed(alloc, tables, work, number, now) },
         );
@@ -225,8 +225,8 @@ pub fn work<R: Wait, D: Disk, W: Work, C: Clock, G: Gate>(
             rt,
             &mut seat,
             |tables: &mut Tables<D, W>| -> bool
-                requires { IsSound D.told D.seen tables.old × (tables.old.opening.work.value ≡ work.now) × IfOk list (λ l. All (λ p. IsNoMark p.artifact.items) l.items) }
-                ensures sound { IsSound D.told D.seen tables.new }
+                requires { IsSound D.told D.seen D.faults tables.old × (tables.old.opening.work.value ≡ work.now) × IfOk list (λ l. All (λ p. IsNoMark p.artifact.items) l.items) }
+                ensures sound { IsSound D.told D.seen D.faults tables.new }
                 ensures opening { tables.new.opening ≡ tables.old.opening }
             { stored(alloc, tables, work, &tasks, list) },
         );

@@ -1,5 +1,5 @@
 use Rattle.survey_check.proofs.Rows.{concludes_stopped}
 use Rattle.survey_check.proofs.concluding.finish_and_put.Goals as goal
 
-pub returns-in-Err : goal.returns-in-Err
-returns-in-Err g c = concludes_stopped c.stopped-ending.result _ _ c.stopped-ending.ensures
+pub returns-in-Err-clause-ends : goal.returns-in-Err-clause-ends
+returns-in-Err-clause-ends g c = concludes_stopped c.stopped-ending.result _ _ c.stopped-ending.ensures.stopped

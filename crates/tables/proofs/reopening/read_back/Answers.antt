@@ -18,6 +18,7 @@ loop-kept-init g c = record {
     same = refl;
     lead = (c.in_ok-first.first, c.in_ok-rounds.rounds, c.in_ok-rounds.ensures, refl);
   };
+  later = omega arith;
 }
 
 pub loop-kept-preserved : goal.loop-kept-preserved
@@ -40,6 +41,7 @@ loop-kept-preserved g c =
           (c.in-Ok-Some.ensures.reads told old.invariant.going digests read.entries
           (subst (λ bytes. HasRead digests read.entries (reading_scan old.reading) bytes) (sym read.same) read.has_read))) in
           read_one_more g.D.Disk.seen digests image old.reading new old.rounds c.take.new.rounds c.in-Ok-Some.kept read here same c.in_ok-take-in-Ok-Some.ensures.takes;
+      later = omega (arith, old.invariant.later, c.next.ensures.later);
     }
 
 pub returns-in-Ok-None-clause-read : goal.returns-in-Ok-None-clause-read

@@ -1,4 +1,4 @@
-use Rattle.std.proofs.Common.{◌≡◌, ◌-◌, ◌^◌, true, []}
+use Rattle.std.proofs.Common.{◌≡◌, ◌≤◌, ◌-◌, ◌^◌, true, []}
 use Rattle.journal.specs.declared.digests.Digests.{Digests}
 use Rattle.journal.specs.Readings.{reading_disk, reading_scan, IsReading, IsGoing}
 use Rattle.journal.specs.Scans.{HasRead}
@@ -13,6 +13,7 @@ invariant-loop-kept g l = record {
   spaced : Spaced l.rounds.machine l.reading.scan.at;
   read : g.D.Disk.told ≡ true → (digests : Digests) → HasRead digests [] (reading_scan l.initial.reading) (g.D.Disk.seen (reading_disk l.initial.reading)) →
       IsReadTo g.D.Disk.seen digests (g.D.Disk.seen (reading_disk l.initial.reading)) l.reading l.rounds;
+  later : g.D.Disk.faults (reading_disk l.initial.reading) ≤ g.D.Disk.faults (reading_disk l.reading);
 }
 
 abbrev pub decreases-loop-kept : goal.decreases-loop-kept

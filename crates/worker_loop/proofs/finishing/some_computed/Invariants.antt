@@ -5,7 +5,7 @@ use Rattle.worker_loop.proofs.finishing.some_computed.Given as goal
 
 abbrev pub invariant-tasks : goal.invariant-tasks
 invariant-tasks g l = record {
-  sound : IsSound {D = g.row.D.Denot} {W = g.row.W.Denot} {B = g.row.W-Basis.Denot} {V = g.row.W-View.Denot} g.D.Disk.told g.D.Disk.seen l.tables;
+  sound : IsSound {D = g.row.D.Denot} {W = g.row.W.Denot} {B = g.row.W-Basis.Denot} {V = g.row.W-View.Denot} g.D.Disk.told g.D.Disk.seen g.D.Disk.faults l.tables;
   opening : l.tables.opening ≡ l.fn.tables.opening;
   journal : l.tables.journal ≡ l.fn.tables.journal;
   artifacts : All (λ p. IsNoMark p.artifact.items) l.list.items;

@@ -8,4 +8,6 @@ returns-clause-sound g c =
     record {
       journal = c.requires.sound.journal;
       spaced = spaced_followed {B = g.row.W-Basis.Denot} c.in_ok-next.next old.rounds c.advance.new.self c.advance.result (journal_gate old.journal) c.advance.ensures.task c.advance.ensures.follows c.advance.ensures.err c.requires.sound.spaced;
+      later = c.requires.sound.later;
+      risen = c.requires.sound.risen;
     }

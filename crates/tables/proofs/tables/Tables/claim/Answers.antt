@@ -8,4 +8,6 @@ returns-clause-sound g c =
     record {
       journal = c.requires.journal;
       spaced = spaced_claimed {B = g.row.W-Basis.Denot} c.args.now old.opening.term old.rounds c.claim.new.self c.claim.result (journal_gate old.journal) c.claim.ensures.step c.claim.ensures.err c.requires.spaced;
+      later = c.requires.later;
+      risen = c.requires.risen;
     }

@@ -1,4 +1,4 @@
-use Rattle.std.proofs.Common.{List, ℕ, [], ◌∷◌, ◌++◌, length, ◌≡◌, ◌≤◌, ◌^◌, refl, subst, sym, ap, ◌∙◌}
+use Rattle.std.proofs.Common.{List, ℕ, [], ◌∷◌, ◌++◌, length, ◌≡◌, ◌≤◌, ◌^◌, refl, subst, ap, ◌∙◌, arith}
 use Rattle.tables.specs.Batches.{IsPieceOf}
 use Rattle.tables.specs.Sound.{record_body, shelf_of}
 use Rattle.tables.specs.Stored.{record_for, records_of}
@@ -8,11 +8,11 @@ use Rattle.tables.proofs.tables.Tables.decide.Goals as goal
 
 pub returns-in-Some : goal.returns-in-Some
 returns-in-Some g c = λ done h.
-    rw (c.in_ok-refuse.ensures.piece, c.in_ok-refuse.ensures.taken, c.in_ok-refuse.ensures.answers) (batch_refused _ _ done _ _ _ c.args.publication _ refl refl h)
+    rw (c.in_ok-refuse.ensures.piece, c.in_ok-refuse.ensures.taken, c.in_ok-refuse.ensures.answers) (batch_refused _ _ done _ _ _ c.args.publication _ refl refl (λ _. tt) h)
 
 pub returns-then-size-gt-LIMIT : goal.returns-then-size-gt-LIMIT
 returns-then-size-gt-LIMIT g c = λ done h.
-    rw (c.in_ok-refuse-2.ensures.piece, c.in_ok-refuse-2.ensures.taken, c.in_ok-refuse-2.ensures.answers) (batch_refused _ _ done _ _ _ c.args.publication _ refl refl h)
+    rw (c.in_ok-refuse-2.ensures.piece, c.in_ok-refuse-2.ensures.taken, c.in_ok-refuse-2.ensures.answers) (batch_refused _ _ done _ _ _ c.args.publication _ refl refl (λ _. omega (arith, c.if-size-gt-LIMIT.true)) h)
 
 pub returns : goal.returns
 returns g c = λ done h.

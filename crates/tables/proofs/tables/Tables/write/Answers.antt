@@ -1,4 +1,4 @@
-use Rattle.std.proofs.Common.{List, ℕ, [], ◌∷◌, length, ◌≡◌, ◌≤◌, ◌^◌, subst, sym, ap, arith}
+use Rattle.std.proofs.Common.{List, ℕ, [], ◌∷◌, length, ◌≤◌, ◌^◌, subst, arith}
 use Rattle.journal.specs.Format.{IsBatch}
 use Rattle.journal.specs.Pieces.{piece_bytes}
 use Rattle.tables.specs.Sound.{record_body, shelf_of}

@@ -10,11 +10,11 @@ compare_exchange-found-requires g c =
     let i = c.loop.invariant in (
       i.0 ∙ c.requires.own,
       search rules,
-      takes_slot (IsSound g.D.Disk.told g.D.Disk.seen) c.args.self.now.table.shared.table_id.slots c.loop.seat.id c.loop.seat.me (step 1 0 0 1 none)
+      takes_slot (IsSound g.D.Disk.told g.D.Disk.seen g.D.Disk.faults) c.args.self.now.table.shared.table_id.slots c.loop.seat.id c.loop.seat.me (step 1 0 0 1 none)
           (ap (λ m. m.1) i.1 ∙ c.requires.rests.0, ap (λ m. m.0.holds) i.1 ∙ c.requires.rests.1),
     )
 
 pub exchange-held-requires : goal.exchange-held-requires
 exchange-held-requires g c =
     let e = c.compare_exchange-found.ensures in
-    (e.0 ∙ (c.loop.invariant.0 ∙ c.requires.own), won_slot (IsSound g.D.Disk.told g.D.Disk.seen) (step 1 0 0 1 none) c.loop.seat.me c.compare_exchange-found.new.seat.me c.compare_exchange-found.result e.2 c.if-found-eq0.true)
+    (e.0 ∙ (c.loop.invariant.0 ∙ c.requires.own), won_slot (IsSound g.D.Disk.told g.D.Disk.seen g.D.Disk.faults) (step 1 0 0 1 none) c.loop.seat.me c.compare_exchange-found.new.seat.me c.compare_exchange-found.result e.2 c.if-found-eq0.true)
